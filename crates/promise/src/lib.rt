@@ -1,0 +1,1 @@
+// The shapes of promises that several crates make. Definitions alone: they stand in specs/.
