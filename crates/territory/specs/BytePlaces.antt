@@ -1,0 +1,10 @@
+-- The order of byte places. Assumes nothing.
+use mathlib.Core.Bool.{Bool}
+use lib.Dec.{ltb, eqb}
+use Rattle.territory.specs.declared.byte_places.BytePlace.{BytePlace}
+
+abbrev pub place-before : BytePlace → BytePlace → Bool
+place-before a b = ltb (a .at) (b .at)
+
+abbrev pub place-level : BytePlace → BytePlace → Bool
+place-level a b = eqb (a .at) (b .at)
