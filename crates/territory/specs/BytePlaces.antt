@@ -1,7 +1,11 @@
--- The order of byte places. Assumes nothing.
+-- Byte places and their order. Assumes nothing.
 use mathlib.Core.Bool.{Bool}
+use Prim.Native.Nat.{ℕ}
 use lib.Dec.{ltb, eqb}
 use Rattle.territory.specs.declared.byte_places.BytePlace.{BytePlace}
+
+abbrev pub byte-place : ℕ → BytePlace
+byte-place at = record { at = at }
 
 abbrev pub place-before : BytePlace → BytePlace → Bool
 place-before a b = ltb (a .at) (b .at)

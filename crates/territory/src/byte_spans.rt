@@ -1,9 +1,9 @@
 // The bytes of a delivery from a first place up to, but without, an end place.
 ghost use mathlib.Core.Path.{_≡_};
-ghost use Prim.Native.Nat.{_≤_};
+ghost use Prim.Native.Nat.{_+_, _≤_};
 ghost use lib.Dec.{leb};
 ghost use Rattle.std.specs.Options.{mapped};
-ghost use Rattle.territory.specs.BytePlaces.{place-before, place-level};
+ghost use Rattle.territory.specs.BytePlaces.{byte-place, place-before, place-level};
 ghost use Rattle.territory.specs.Singles.{told-if};
 ghost use Rattle.territory.specs.Stretches.{from-to, lies-within, meeting};
 use crate::Bound;
@@ -30,6 +30,29 @@ impl ByteSpan {
         } else {
             None
         }
+    }
+
+    // So many bytes from a place on.
+    pub fn of_length(place: u16, length: u16) -> ByteSpan
+        ensures { λ r. ⌜ from-to (r .first) (r .end) ≡ from-to (byte-place place) (byte-place (place + length)) ⌝ }
+    {
+        let first = BytePlace { at: place as usize };
+        let end = BytePlace {
+            at: place as usize + length as usize,
+        };
+        ByteSpan { first, end }
+    }
+
+    pub fn first(&self) -> BytePlace
+        ensures { λ r. ⌜ r ≡ now (self .entry) .first ⌝ }
+    {
+        self.first
+    }
+
+    pub fn end(&self) -> BytePlace
+        ensures { λ r. ⌜ r ≡ now (self .entry) .end ⌝ }
+    {
+        self.end
     }
 
     fn stretch(&self) -> Stretch<BytePlace>
