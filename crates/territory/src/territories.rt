@@ -31,6 +31,12 @@ pub trait Territory {
         ensures value { λ r. ⌜ r ≡ not (isSome (common (now (self .entry)) (now (self .entry)))) ⌝ }
         ensures meaning { λ r. ⌜ Decides r (HoldsNothing holds (now (self .entry))) ⌝ }
     {
-        self.common(self).is_none()
+        is_untold(self.common(self))
     }
+}
+
+fn is_untold<P: Copy>(point: Option<P>) -> bool
+    ensures { λ r. ⌜ r ≡ not (isSome point) ⌝ }
+{
+    point.is_none()
 }
