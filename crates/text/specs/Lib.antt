@@ -1,1 +1,2 @@
 pub mod AddressNumber
+pub mod Bytes
