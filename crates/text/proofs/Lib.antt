@@ -1,3 +1,4 @@
 pub mod ByteLaws
+pub mod FieldLaws
 pub mod Inversions
 pub mod NumberLaws

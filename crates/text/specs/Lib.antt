@@ -1,2 +1,4 @@
 pub mod AddressNumber
 pub mod Bytes
+pub mod FieldText
+pub mod Widths

@@ -1,7 +1,9 @@
-// The texts of fields, each accepted exactly when its form allows: address numbers.
+// The texts of fields, each accepted exactly when its form allows: address numbers, plain texts.
 
 mod address_number;
 mod bytes;
+mod field_text;
 
 pub use address_number::AddressNumber;
 pub use bytes::same_bytes;
+pub use field_text::TextField;
