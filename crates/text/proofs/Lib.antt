@@ -1,4 +1,5 @@
 pub mod ByteLaws
 pub mod FieldLaws
 pub mod Inversions
+pub mod NguidLaws
 pub mod NumberLaws

@@ -1,4 +1,5 @@
 pub mod AddressNumber
 pub mod Bytes
 pub mod FieldText
+pub mod Nguids
 pub mod Widths

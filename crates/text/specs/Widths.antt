@@ -18,3 +18,6 @@ width-of Municipality = 100
 width-of NumberPrefix = 15
 width-of NumberSuffix = 15
 width-of Unit = 75
+
+abbrev pub nguid-width : ℕ
+nguid-width = 254

@@ -3,7 +3,10 @@
 mod address_number;
 mod bytes;
 mod field_text;
+mod nguid;
 
 pub use address_number::AddressNumber;
 pub use bytes::same_bytes;
 pub use field_text::TextField;
+pub use nguid::Layer;
+pub use nguid::Nguid;
