@@ -5,6 +5,7 @@ ghost use Rattle.text.specs.Widths.{width-of};
 ghost use mathlib.Core.Path.{_≡_};
 use crate::bytes::Alphabet;
 use crate::bytes::same_bytes;
+use crate::full_name::FULL_NAME_WIDTH;
 
 /// A field that holds plain text.
 #[derive(Clone, Copy)]
@@ -39,7 +40,7 @@ impl TextField {
             TextField::PostType => 50,
             TextField::PostDirectional => 9,
             TextField::PostModifier => 25,
-            TextField::FullName => 245,
+            TextField::FullName => FULL_NAME_WIDTH,
             TextField::County => 40,
             TextField::Municipality => 100,
             TextField::NumberPrefix => 15,

@@ -3,10 +3,12 @@
 mod address_number;
 mod bytes;
 mod field_text;
+mod full_name;
 mod nguid;
 
 pub use address_number::AddressNumber;
 pub use bytes::same_bytes;
 pub use field_text::TextField;
+pub use full_name::FullName;
 pub use nguid::Layer;
 pub use nguid::Nguid;
