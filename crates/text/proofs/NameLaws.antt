@@ -62,3 +62,8 @@ accepted bytes gap element bytes₁ name₁ bytes₂ name₂ n within is small e
       name = rw (fit, e₂, e₁, is) (append-assoc name _ element);
       bytes = rw (o₂, o₁, e₂) (over-over bytes name₁ element)
     }
+
+pub both-present : (name element : List ℕ) → 0 < length name → 0 < length element → 32 ∷ [] ≡ separator name element
+both-present [] element some more = let never : ⊥ = omega arith in absurd never
+both-present (b ∷ bs) [] some more = let never : ⊥ = omega arith in absurd never
+both-present (b ∷ bs) (e ∷ es) some more = refl

@@ -7,6 +7,7 @@ mod joining;
 pub(crate) const FULL_NAME_WIDTH: usize = 245;
 
 /// The elements of a street's name that are present, joined by one space.
+#[derive(Drop)]
 pub struct FullName {
     bytes: [u8; FULL_NAME_WIDTH],
     length: usize,

@@ -1,9 +1,11 @@
 // Joining the elements of a street's name.
-ghost use Rattle.text.specs.FullNames.{fits, name-of, over, pushed, separator};
+ghost use Rattle.std.specs.Options.{isSome, mapped};
+ghost use Rattle.text.specs.FullNames.{Joins, Within, fits, full-name, name-elements, name-of, over, pushed, separator, texts-of};
 ghost use Rattle.text.specs.Widths.{full-name-width};
 ghost use lib.ListN.{length, replicate};
 ghost use mathlib.Core.List.{[], _++_};
 ghost use Prim.Native.Nat.{_+_, _≤_};
+ghost use mathlib.Core.Bool.{true};
 ghost use mathlib.Core.Path.{_≡_};
 use super::FULL_NAME_WIDTH;
 use super::FullName;
@@ -13,8 +15,17 @@ impl FullName {
     pub fn new() -> FullName
         ensures empty { λ r. ⌜ name-of r ≡ [] ⌝ }
         ensures bytes { λ r. ⌜ r .bytes ≡ replicate full-name-width 0 ⌝ }
+        ensures joins { λ _. ⌜ Joins ⌝ }
     {
         FullName { bytes: [0; FULL_NAME_WIDTH], length: 0 }
+    }
+
+    /// The full name of the elements, in their order, unless it does not fit.
+    pub fn of(elements: &[&[u8]]) -> Option<FullName>
+        ensures name { λ r. ⌜ mapped name-of r ≡ full-name (texts-of (now (elements .entry))) ⌝ }
+        ensures fits { λ r. ⌜ (Within name-elements (texts-of (now (elements .entry))) → isSome r ≡ true) ⌝ }
+    {
+        join(elements)
     }
 
     /// The name as it stands.
@@ -56,4 +67,16 @@ impl FullName {
         self.bytes[start..end].copy_from_slice(more);
         self.length = end;
     }
+}
+
+fn join(elements: &[&[u8]]) -> Option<FullName>
+    ensures { λ r. ⌜ mapped name-of r ≡ full-name (texts-of (now (elements .entry))) ⌝ }
+{
+    let mut name = FullName::new();
+    for element in elements {
+        if !name.push(element) {
+            return None;
+        }
+    }
+    Some(name)
 }
