@@ -13,7 +13,7 @@ use Rattle.std.specs.declared.option.Option.the-variants.{Some, None}
 use Rattle.std.proofs.shelf.Lists.{append-nil, length-append}
 use Rattle.std.proofs.shelf.Tests.{cond-true, le-leb, leb-false, lt-leb}
 use Rattle.text.proofs.Inversions.{none-some}
-use Rattle.text.specs.FullNames.{Joins, Within, all-fit, fits, full-name, joined, name-elements, name-of, name-with, present, pushed-all, separator, spaced, texts-of}
+use Rattle.text.specs.FullNames.{Joins, Within, all-fit, fits, full-name, joined, name-elements, name-of, name-with, present, pushed, pushed-all, separator, spaced, texts-of}
 use Rattle.text.specs.Widths.{full-name-width, width-of}
 use Rattle.text.specs.declared.full_name.FullName.{FullName}
 use Rattle.text.specs.declared.field_text.TextField.{TextField}
@@ -93,15 +93,20 @@ unfolding joined total
 within-fits elements within =
     omega (arith, spaced-short (kept-by present elements), tails-within name-elements elements within)
 
+pub grown-next : (name element new : List ℕ) (rest : List (List ℕ)) → true ≡ fits name element → new ≡ pushed name element
+  → grown name (element ∷ rest) ≡ grown new rest
+unfolding grown
+grown-next name element new rest fit is = ap (λ n. grown n rest) (sym (is ∙ cond-true _ _ _ (sym fit)))
+
 -- the elements are too long together, from one that does not fit; or the name is whole, and fits
 pub too-long : (elements rest : List (List ℕ)) (name element : List ℕ) → grown [] elements ≡ grown name (element ∷ rest)
-  → fits name element ≡ false → None ≡ full-name elements
+  → false ≡ fits name element → None ≡ full-name elements
 unfolding grown full-name
 too-long elements rest name element is past =
     rw
     (lt-leb (length (joined elements)) full-name-width
       (omega
-        (arith, leb-false (length (name-with name element)) full-name-width past, grows (name-with name element) rest,
+        (arith, leb-false (length (name-with name element)) full-name-width (sym past), grows (name-with name element) rest,
           ap length is, ap length (grown-joined elements))))
     refl
 

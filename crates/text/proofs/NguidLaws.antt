@@ -58,6 +58,12 @@ after-start layer text =
     ∙ (after-both (nguid-front ++ layer-text layer) colon text
     ∙ ap (λ o. next o (after colon)) (after-both nguid-front (layer-text layer) text))
 
+-- after the fixed front, the layer and the colon are left
+pub after-front : (layer : Layer) (text rest written : List ℕ) → Some rest ≡ after nguid-front text → written ≡ layer-text layer
+  → next (after written rest) (after colon) ≡ after (nguid-start layer) text
+after-front layer text rest written begun is =
+    rw is (ap (λ o. next o (after colon)) (goes (after (layer-text layer)) begun) ∙ sym (after-start layer text))
+
 -- the search for a colon: found, passed on, at the end
 pub split-here : (text : List ℕ) (i : ℕ) → i < length text → getD text i 0 ≡ 58
   → split-after (take i text) (drop i text) ≡ Some (record { local = take i text; agency = drop (i + 1) text })

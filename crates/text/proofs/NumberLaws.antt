@@ -19,7 +19,7 @@ use Rattle.std.proofs.shelf.Numerals.{Numerals, numerals-by-fold, tells-allDigi
 use Rattle.std.specs.Written.{decimal}
 use Rattle.promise.specs.Exactly.{Exactly}
 use Rattle.text.proofs.Inversions.{cond-apart, mapped-apart, none-some}
-use Rattle.text.specs.AddressNumber.{NumberText, digits-of, digits-value, greatest-number, most-digits, read-number, spelled, well-begun, written-number}
+use Rattle.text.specs.AddressNumber.{NumberText, ReadsBack, digits-of, digits-value, greatest-number, most-digits, read-number, spelled, well-begun, written-number}
 use Rattle.text.specs.declared.address_number.AddressNumber.{AddressNumber}
 
 under-digits : (text : List ℕ) → allDigits text ≡ true → Under 10 (digits-of text)
@@ -88,8 +88,8 @@ decimal-begun n small =
     | inr h ↦ let one = decimal-digit n (omega arith) in rw one (grind (arith, tells))
     ]
 
-pub reads-back : (place : AddressNumber) → place .value ≤ greatest-number → read-number (written-number place) ≡ Some place
-unfolding read-number digits-value written-number
+pub reads-back : ReadsBack
+unfolding read-number digits-value
 reads-back place small =
     let n = place .value in
     rw (decimal-begun n small, digits-decimal own n (omega arith), value-decimal own n (omega arith)) refl

@@ -44,7 +44,7 @@ unfoldable pub read-number : List ℕ → Option AddressNumber
 read-number text = cond (well-begun text) (mapped (λ n. record { value = n }) (digits-value text)) None
 
 -- the decimal digits of the number
-unfoldable pub written-number : AddressNumber → List ℕ
+abbrev pub written-number : AddressNumber → List ℕ
 written-number place = decimal (place .value)
 
 -- the text spells the number by its digits, the first of which is not 0 unless it is the only one
@@ -56,3 +56,7 @@ pub record NumberText (text : List ℕ) (place : AddressNumber) : Type 0 where
   pub no-leading-zero : (first ≢ 0) ⊎ (rest ≡ [])
   pub spells : text ≡ spelled (first ∷ rest)
   pub value : place .value ≡ number 10 (first ∷ rest)
+
+-- what is written of a number reads back as it
+abbrev pub ReadsBack : Type 0
+ReadsBack = (place : AddressNumber) → place .value ≤ greatest-number → read-number (written-number place) ≡ Some place

@@ -2,8 +2,7 @@
 ghost use Prim.Native.Nat.{_≤_};
 ghost use Rattle.promise.specs.Exactly.{Exactly};
 ghost use Rattle.std.specs.Written.{decimal};
-ghost use Rattle.std.specs.declared.option.Option.the-variants.{Some};
-ghost use Rattle.text.specs.AddressNumber.{NumberText, digits-value, greatest-number, most-digits, read-number, written-number, written-width};
+ghost use Rattle.text.specs.AddressNumber.{NumberText, ReadsBack, digits-value, most-digits, read-number, written-number, written-width};
 ghost use lib.ListN.{drop, length};
 ghost use mathlib.Core.List.{_++_};
 ghost use mathlib.Core.Path.{_≡_};
@@ -21,6 +20,7 @@ impl AddressNumber {
     pub fn read(text: &[u8]) -> Option<AddressNumber>
         ensures reads { λ r. ⌜ r ≡ read-number (now (text .entry)) ⌝ }
         ensures exactly { λ r. ⌜ Exactly (NumberText (now (text .entry))) r ⌝ }
+        ensures reads_back { λ _. ⌜ ReadsBack ⌝ }
     {
         read_number(text)
     }
@@ -30,7 +30,6 @@ impl AddressNumber {
         ensures count { λ r. ⌜ r ≡ length (written-number self) ⌝ }
         ensures writes { λ r. ⌜ now (out .exit) ≡ written-number self ++ drop r (now (out .entry)) ⌝ }
         ensures width { λ r. ⌜ (1 ≤ r) × (r ≤ written-width) ⌝ }
-        ensures reads_back { λ _. ⌜ (self .value ≤ greatest-number → read-number (written-number self) ≡ Some self) ⌝ }
     {
         put_digits(self.value, out)
     }
@@ -67,9 +66,10 @@ fn digits_value(text: &[u8]) -> Option<u32>
 
 // Writes the decimal digits at the front of `out`, and tells how many.
 fn put_digits(number: u32, out: &mut [u8]) -> usize
-    requires { ⌜ length (decimal number) ≤ length (now out) ⌝ }
+    requires { ⌜ 10 ≤ length (now out) ⌝ }
     ensures count { λ r. ⌜ r ≡ length (decimal number) ⌝ }
     ensures writes { λ r. ⌜ now (out .exit) ≡ decimal number ++ drop r (now (out .entry)) ⌝ }
+    ensures few { λ r. ⌜ (1 ≤ r) × (r ≤ 10) ⌝ }
 {
     let before = if number < 10 { 0 } else { put_digits(number / 10, out) };
     out[before] = b'0' + (number % 10) as u8;

@@ -8,6 +8,14 @@ pub fn same_bytes(a: &[u8], b: &[u8]) -> bool
     ensures same { λ r. ⌜ r ≡ sameBytes (now (a .entry)) (now (b .entry)) ⌝ }
     ensures decides { λ r. ⌜ Decides r (now (a .entry) ≡ now (b .entry)) ⌝ }
 {
+    equal(a, b)
+}
+
+// What `==` tells of slices, in our words.
+fn equal(a: &[u8], b: &[u8]) -> bool
+    ensures same { λ r. ⌜ r ≡ sameBytes (now (a .entry)) (now (b .entry)) ⌝ }
+    ensures decides { λ r. ⌜ Decides r (now (a .entry) ≡ now (b .entry)) ⌝ }
+{
     a == b
 }
 

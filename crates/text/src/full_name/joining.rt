@@ -15,7 +15,6 @@ impl FullName {
     pub fn new() -> FullName
         ensures empty { λ r. ⌜ name-of r ≡ [] ⌝ }
         ensures bytes { λ r. ⌜ r .bytes ≡ replicate full-name-width 0 ⌝ }
-        ensures joins { λ _. ⌜ Joins ⌝ }
     {
         FullName { bytes: [0; FULL_NAME_WIDTH], length: 0 }
     }
@@ -24,6 +23,7 @@ impl FullName {
     pub fn of(elements: &[&[u8]]) -> Option<FullName>
         ensures name { λ r. ⌜ mapped name-of r ≡ full-name (texts-of (now (elements .entry))) ⌝ }
         ensures fits { λ r. ⌜ (Within name-elements (texts-of (now (elements .entry))) → isSome r ≡ true) ⌝ }
+        ensures joins { λ _. ⌜ Joins ⌝ }
     {
         join(elements)
     }

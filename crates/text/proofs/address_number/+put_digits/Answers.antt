@@ -1,10 +1,10 @@
-use mathlib.Core.Path.{_≡_, refl, sym, ap, _∙_}
+use mathlib.Core.Path.{_≡_, sym, ap, _∙_}
 use mathlib.Core.List.{List, [], _∷_, _++_, append-assoc}
-use Prim.Native.Nat.{ℕ, _+_, _/_, _%_, _≤_, _<_}
+use Prim.Native.Nat.{ℕ, _+_, _/_, _%_, _^_, _≤_, _<_}
 use native.Mathlib.Omega.{arith}
 use lib.ListN.{length, drop, set}
-use Rattle.std.proofs.shelf.Decimals.{decimal-digit, decimal-step}
-use Rattle.std.proofs.shelf.Lists.{drop-more, length-append, length-push, set-at}
+use Rattle.std.proofs.shelf.Decimals.{decimal-digit, decimal-step, length-decimal-le}
+use Rattle.std.proofs.shelf.Lists.{drop-more, length-push, set-at}
 use Rattle.std.specs.Written.{decimal}
 use Rattle.text.proofs.address_number.+put_digits.Needs as need
 use Rattle.text.proofs.address_number.+put_digits.Needs.{then-number-lt10, else-number-lt10, Joined-number-lt10}
@@ -40,24 +40,23 @@ begun t c =
 length-number : {n before : ℕ} {was now : List ℕ} → Begun n before was now → length (decimal n) ≡ before + 1
 length-number b = ap length (b .number) ∙ (length-push (b .front) _ ∙ ap (λ k. k + 1) (sym (b .count)))
 
-pub put-digits-before-requires : need.put-digits-before-requires
-put-digits-before-requires t c κs = 
-    let e = decimal-step (c .args .number) (c .if-number-lt10 .left) (omega arith) in
-    (omega arith, omega (arith, ap length e, length-push (decimal (c .args .number / 10)) (48 + c .args .number % 10)))
+few : (n : ℕ) → n < 2 ^ 32 → length (decimal n) ≤ 10
+few n small = length-decimal-le 10 n (omega arith) (omega arith) (omega arith)
 
 pub index-out-before : need.index-out-before
-index-out-before t c = omega (arith, length-number (begun t c))
+index-out-before t c = omega (arith, length-number (begun t c), few (c .args .number) (omega arith))
 
 pub add-result : need.add-result
-add-result t c = omega (arith, length-number (begun t (need.at·add-result t c .Joined-number-lt10)))
+add-result t c = omega (arith, length-number (begun t (need.at·add-result t c .Joined-number-lt10)), few (c .args .number) (omega arith))
 
-last : (n before : ℕ) (was now : List ℕ) → Begun n before was now → length (decimal n) ≤ length was
+last : (n before : ℕ) (was now : List ℕ) → Begun n before was now → before < length was
   → set now before (48 + n % 10) ≡ decimal n ++ drop (before + 1) was
-last n before was now b fits = 
-    let h : before < length was = omega (arith, length-number b) in
+last n before was now b h =
     rw (b .out, drop-more was before 0, b .number, append-assoc) (set-at (b .front) _ _ _ before (sym (b .count)))
 
 pub returns : need.returns
 returns t c =
     let b = begun t (need.at·returns t c .Joined-number-lt10) in
-    record { count = sym (length-number b); writes = last _ _ _ _ b (c .pre) }
+    let count = length-number b in
+    let most = few (c .args .number) (omega arith) in
+    record { count = sym count; writes = last _ _ _ _ b (omega arith); few = omega arith }

@@ -1,7 +1,7 @@
-use mathlib.Core.Path.{sym, ap, _∙_}
-use Rattle.text.specs.Nguids.{after, nguid-front}
+use mathlib.Core.Path.{sym, _∙_}
+use Rattle.text.specs.Nguids.{nguid-front}
 use Rattle.text.proofs.Inversions.{goes, stops}
-use Rattle.text.proofs.NguidLaws.{after-start}
+use Rattle.text.proofs.NguidLaws.{after-front, after-start}
 use Rattle.text.proofs.nguid.after_layer.Needs as need
 
 pub returns-in-Break-rest : need.returns-in-Break-rest
@@ -12,13 +12,11 @@ returns-in-Break-rest c =
 pub returns-in-Break-rest-2 : need.returns-in-Break-rest-2
 unfolding nguid-front
 returns-in-Break-rest-2 c =
-    let layer = ap (λ front. after front (c .in-Continue-rest .rest .now)) (c .text .ensures) in
     rw (c .from-residual-in-Break-rest-2 .ensures)
-    (stops _ (c .in-Break-rest-2 .ensures tt ∙ (layer ∙ goes _ (c .in-Continue-rest .ensures tt))) ∙ sym (after-start _ _))
+    (stops _ (c .in-Break-rest-2 .ensures tt) ∙ after-front _ _ _ _ (c .in-Continue-rest .ensures tt) (c .text .ensures))
 
 pub returns : need.returns
 unfolding nguid-front
 returns c =
-    let layer = ap (λ front. after front (c .in-Continue-rest .rest .now)) (c .text .ensures) in
     c .after-3 .ensures
-    ∙ (goes _ (c .in-Continue-rest-2 .ensures tt ∙ (layer ∙ goes _ (c .in-Continue-rest .ensures tt))) ∙ sym (after-start _ _))
+    ∙ (goes _ (c .in-Continue-rest-2 .ensures tt) ∙ after-front _ _ _ _ (c .in-Continue-rest .ensures tt) (c .text .ensures))

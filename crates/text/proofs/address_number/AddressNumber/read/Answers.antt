@@ -1,10 +1,7 @@
-use mathlib.Core.Path.{sym, subst}
-use Rattle.promise.specs.Exactly.{Exactly}
-use Rattle.text.specs.AddressNumber.{NumberText}
-use Rattle.text.proofs.NumberLaws.{number-exactly}
+use Rattle.text.proofs.NumberLaws.{number-exactly, reads-back}
 use Rattle.text.proofs.address_number.AddressNumber.read.Needs as need
 
 pub returns : need.returns
 returns c =
-    let text = c .args .text .now in
-    record { reads = c .read-number .ensures; exactly = rw (c .read-number .ensures) (number-exactly text) }
+    let told = c .read-number .ensures in
+    record { reads = told; exactly = rw told (number-exactly (c .args .text .now)); reads-back = reads-back }

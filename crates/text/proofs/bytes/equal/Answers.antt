@@ -1,7 +1,7 @@
 use Rattle.std.proofs.shelf.Equals.{matches-decides}
 use Rattle.std.proofs.shelf.Ways.{same-from-decides}
 use Rattle.text.proofs.ByteLaws.{sameBytes-decides}
-use Rattle.text.proofs.bytes.same_bytes.Needs as need
+use Rattle.text.proofs.bytes.equal.Needs as need
 
 pub returns : need.returns
 returns c =
