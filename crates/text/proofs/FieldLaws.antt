@@ -32,7 +32,7 @@ ends (x ∷ xs) h =
     (take n text, whole ∙ (take-more text n 0 (omega arith) ∙ ap (λ y. take n text ++ (y ∷ [])) (eqb-true _ _ h)))
 
 last-decides : (text : List ℕ)
-  → Decides (eqb (getD text (length text - 1) 0) 32) ((front : List ℕ) × (text ≡ front ++ (32 ∷ [])))
+    → Decides (eqb (getD text (length text - 1) 0) 32) ((front : List ℕ) × (text ≡ front ++ (32 ∷ [])))
 last-decides text =
     (ends text, λ h. eq-eqb _ 32 (rw (h .1) (getD-push (h .0) 32 0 _ (omega (arith, length-push (h .0) 32)))))
 
@@ -51,17 +51,17 @@ unfolding is-field-text
 field-decides field text =
     decides-like _
     (λ p.
-      record {
-        printable = p .1 .1 .1;
-        within = p .1 .1 .0;
-        first = λ rest e. p .1 .0 .0 (rest, e);
-        last = λ front e. p .1 .0 .1 (front, e);
-        direction = p .0
-      })
+    record {
+      printable = p .1 .1 .1;
+      within = p .1 .1 .0;
+      no-first-space = λ rest e. p .1 .0 .0 (rest, e);
+      no-last-space = λ front e. p .1 .0 .1 (front, e);
+      direction = p .0;
+    })
     (λ f.
-      (f .direction, (((λ h. f .first (h .0) (h .1)), (λ h. f .last (h .0) (h .1))), (f .within, f .printable))))
+    (f .direction, (((λ h. f .no-first-space (h .0) (h .1)), (λ h. f .no-last-space (h .0) (h .1))), (f .within, f .printable))))
     (decides-and _ _
-      (if-decides _ _ (decides-or _ _ (λ h. nil-from-length text (eqb-true _ _ h), λ e. eq-eqb _ _ (ap length e)) (one-of-decides directions text)))
-      (decides-and _ _
-        (decides-and _ _ (decides-not _ (first-decides text)) (decides-not _ (last-decides text)))
-        (decides-and _ _ (leb-true _ _, le-leb _ _) (every-byte-decides Printable text))))
+    (if-decides _ _ (decides-or _ _ (λ h. nil-from-length text (eqb-true _ _ h), λ e. eq-eqb _ _ (ap length e)) (one-of-decides directions text)))
+    (decides-and _ _
+    (decides-and _ _ (decides-not _ (first-decides text)) (decides-not _ (last-decides text)))
+    (decides-and _ _ (leb-true _ _, le-leb _ _) (every-byte-decides Printable text))))

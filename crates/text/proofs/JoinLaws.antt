@@ -38,7 +38,7 @@ spaced-tails element [] = sym (append-nil element)
 spaced-tails element (other ∷ others) = ap (λ rest. element ++ (32 ∷ rest)) (spaced-tails other others)
 
 grown-tails : (b : ℕ) (bs : List ℕ) (elements : List (List ℕ))
-  → grown (b ∷ bs) elements ≡ (b ∷ bs) ++ tails (kept-by present elements)
+    → grown (b ∷ bs) elements ≡ (b ∷ bs) ++ tails (kept-by present elements)
 unfolding grown tails
 grown-tails b bs [] = sym (append-nil (b ∷ bs))
 grown-tails b bs ([] ∷ elements) = rw append-nil (grown-tails b bs elements)
@@ -58,7 +58,7 @@ grows name (element ∷ elements) =
     omega (arith, grows (name-with name element) elements, length-append name (separator name element ++ element))
 
 pushes : (name : List ℕ) (elements : List (List ℕ)) → length (grown name elements) ≤ full-name-width
-  → (all-fit name elements ≡ true) × (pushed-all name elements ≡ grown name elements)
+    → (all-fit name elements ≡ true) × (pushed-all name elements ≡ grown name elements)
 unfolding grown all-fit pushed-all
 pushes name [] short = (refl, refl)
 pushes name (element ∷ elements) short =
@@ -74,7 +74,7 @@ total [] = 0
 total (field ∷ fields) = width-of field + 1 + total fields
 
 tails-within : (fields : List TextField) (elements : List (List ℕ)) → Within fields elements
-  → length (tails (kept-by present elements)) ≤ total fields
+    → length (tails (kept-by present elements)) ≤ total fields
 unfolding tails total
 tails-within [] [] within = omega arith
 tails-within [] (element ∷ elements) within = absurd within
@@ -94,31 +94,35 @@ within-fits elements within =
     omega (arith, spaced-short (kept-by present elements), tails-within name-elements elements within)
 
 pub grown-next : (name element new : List ℕ) (rest : List (List ℕ)) → true ≡ fits name element → new ≡ pushed name element
-  → grown name (element ∷ rest) ≡ grown new rest
+    → grown name (element ∷ rest) ≡ grown new rest
 unfolding grown
 grown-next name element new rest fit is = ap (λ n. grown n rest) (sym (is ∙ cond-true _ _ _ (sym fit)))
 
 -- the elements are too long together, from one that does not fit; or the name is whole, and fits
 pub too-long : (elements rest : List (List ℕ)) (name element : List ℕ) → grown [] elements ≡ grown name (element ∷ rest)
-  → false ≡ fits name element → None ≡ full-name elements
+    → false ≡ fits name element → None ≡ full-name elements
 unfolding grown full-name
 too-long elements rest name element is past =
     rw
     (lt-leb (length (joined elements)) full-name-width
-      (omega
-        (arith, leb-false (length (name-with name element)) full-name-width (sym past), grows (name-with name element) rest,
-          ap length is, ap length (grown-joined elements))))
+    (omega (
+      arith,
+      leb-false (length (name-with name element)) full-name-width (sym past),
+      grows (name-with name element) rest,
+      ap length is,
+      ap length (grown-joined elements),
+    )))
     refl
 
 pub whole : (elements : List (List ℕ)) (name : List ℕ) → grown [] elements ≡ name → length name ≤ full-name-width
-  → Some name ≡ full-name elements
+    → Some name ≡ full-name elements
 unfolding full-name
 whole elements name is short =
     let e : joined elements ≡ name = sym (grown-joined elements) ∙ is in
     rw (e, le-leb (length name) full-name-width short) refl
 
 pub some-within : (r : Option FullName) (elements : List (List ℕ)) → mapped name-of r ≡ full-name elements
-  → Within name-elements elements → isSome r ≡ true
+    → Within name-elements elements → isSome r ≡ true
 unfolding full-name
 some-within (Some full) elements is within = refl
 some-within None elements is within =

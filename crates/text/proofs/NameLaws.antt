@@ -18,7 +18,7 @@ pub put-name : (n k : ℕ) (bytes more : List ℕ) → n ≤ length bytes → ta
 put-name n k bytes more fits = take-putMid n k bytes more _ refl fits
 
 pub put-over : (n k : ℕ) (bytes more : List ℕ) → n ≤ length bytes → k ≡ length more
-  → putMid n k bytes more ≡ over bytes (take (n + length more) (putMid n k bytes more))
+    → putMid n k bytes more ≡ over bytes (take (n + length more) (putMid n k bytes more))
 put-over n k bytes more fits is =
     rw (put-name n k bytes more fits, length-append, length-take-le n bytes fits, append-assoc, is, drop-drop) refl
 
@@ -32,15 +32,15 @@ pub record Pushed (was old element : List ℕ) (answer : Bool) (is new : List �
   pub bytes : is ≡ over was new
 
 pub refused : (bytes gap element : List ℕ) (n : ℕ) → n ≤ length bytes → gap ≡ separator (take n bytes) element
-  → full-name-width < n + length gap + length element → Pushed bytes (take n bytes) element false bytes (take n bytes)
+    → full-name-width < n + length gap + length element → Pushed bytes (take n bytes) element false bytes (take n bytes)
 refused bytes gap element n within is large =
     let name = take n bytes in
     let past = lt-leb (length (name-with name element)) full-name-width
-      (omega (arith, length-with name element, ap length is, length-take-le n bytes within)) in
+    (omega (arith, length-with name element, ap length is, length-take-le n bytes within)) in
     record {
       answers = sym past;
       name = rw past refl;
-      bytes = rw (length-take-le n bytes within) (sym (take-append-drop n bytes))
+      bytes = rw (length-take-le n bytes within) (sym (take-append-drop n bytes));
     }
 
 -- a longer name written over a name
@@ -50,17 +50,17 @@ over-over bytes name more =
     (drop-append-drop (length name) bytes name _ (omega (arith, length-append name more)) refl)
 
 pub accepted : (bytes gap element bytes₁ name₁ bytes₂ name₂ : List ℕ) (n : ℕ) → n ≤ length bytes
-  → gap ≡ separator (take n bytes) element → n + length gap + length element ≤ full-name-width
-  → name₁ ≡ take n bytes ++ gap → bytes₁ ≡ over bytes name₁ → name₂ ≡ name₁ ++ element → bytes₂ ≡ over bytes₁ name₂
-  → Pushed bytes (take n bytes) element true bytes₂ name₂
+    → gap ≡ separator (take n bytes) element → n + length gap + length element ≤ full-name-width
+    → name₁ ≡ take n bytes ++ gap → bytes₁ ≡ over bytes name₁ → name₂ ≡ name₁ ++ element → bytes₂ ≡ over bytes₁ name₂
+    → Pushed bytes (take n bytes) element true bytes₂ name₂
 accepted bytes gap element bytes₁ name₁ bytes₂ name₂ n within is small e₁ o₁ e₂ o₂ =
     let name = take n bytes in
     let fit = le-leb (length (name-with name element)) full-name-width
-      (omega (arith, length-with name element, ap length is, length-take-le n bytes within)) in
+    (omega (arith, length-with name element, ap length is, length-take-le n bytes within)) in
     record {
       answers = sym fit;
       name = rw (fit, e₂, e₁, is) (append-assoc name _ element);
-      bytes = rw (o₂, o₁, e₂) (over-over bytes name₁ element)
+      bytes = rw (o₂, o₁, e₂) (over-over bytes name₁ element);
     }
 
 pub both-present : (name element : List ℕ) → 0 < length name → 0 < length element → 32 ∷ [] ≡ separator name element

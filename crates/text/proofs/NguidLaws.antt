@@ -47,12 +47,12 @@ after-both (f ∷ fs) q (b ∷ bs) =
 
 -- what `strip_prefix` tells
 pub after-told : (front text : List ℕ) (r : Option (RefT (List ℕ)))
-  → Cases r ((rest : List ℕ) → text ≡ front ++ rest → ⊥) (λ x. text ≡ front ++ x .now) → mapped now r ≡ after front text
+    → Cases r ((rest : List ℕ) → text ≡ front ++ rest → ⊥) (λ x. text ≡ front ++ x .now) → mapped now r ≡ after front text
 after-told front text None never = none-left (after front text) (λ rest e. never rest (after-sound front text rest e))
 after-told front text (Some x) is = rw is (sym (after-complete front (x .now)))
 
 pub after-start : (layer : Layer) (text : List ℕ)
-  → after (nguid-start layer) text ≡ next (next (after nguid-front text) (after (layer-text layer))) (after colon)
+    → after (nguid-start layer) text ≡ next (next (after nguid-front text) (after (layer-text layer))) (after colon)
 after-start layer text =
     ap (λ start. after start text) (sym (append-assoc nguid-front (layer-text layer) colon))
     ∙ (after-both (nguid-front ++ layer-text layer) colon text
@@ -60,18 +60,18 @@ after-start layer text =
 
 -- after the fixed front, the layer and the colon are left
 pub after-front : (layer : Layer) (text rest written : List ℕ) → Some rest ≡ after nguid-front text → written ≡ layer-text layer
-  → next (after written rest) (after colon) ≡ after (nguid-start layer) text
+    → next (after written rest) (after colon) ≡ after (nguid-start layer) text
 after-front layer text rest written begun is =
     rw is (ap (λ o. next o (after colon)) (goes (after (layer-text layer)) begun) ∙ sym (after-start layer text))
 
 -- the search for a colon: found, passed on, at the end
 pub split-here : (text : List ℕ) (i : ℕ) → i < length text → getD text i 0 ≡ 58
-  → split-after (take i text) (drop i text) ≡ Some (record { local = take i text; agency = drop (i + 1) text })
+    → split-after (take i text) (drop i text) ≡ Some (record { local = take i text; agency = drop (i + 1) text })
 unfolding split-after
 split-here text i h e = rw (drop-more text i 0, eq-eqb (getD text i 0) 58 e) refl
 
 pub split-next : (text : List ℕ) (i : ℕ) → i < length text → (getD text i 0 ≡ 58 → ⊥)
-  → split-after (take i text) (drop i text) ≡ split-after (take (i + 1) text) (drop (i + 1) text)
+    → split-after (take i text) (drop i text) ≡ split-after (take (i + 1) text) (drop (i + 1) text)
 unfolding split-after
 split-next text i h apart = rw (drop-more text i 0, ne-eqb (getD text i 0) 58 apart, take-more text i 0) refl
 
@@ -84,30 +84,30 @@ unfolding read-nguid
 too-long layer text long = rw (lt-leb (length text) nguid-width long) refl
 
 pub short-enough : (layer : Layer) (text : List ℕ) → length text ≤ nguid-width
-  → read-nguid layer text ≡ next (next (after (nguid-start layer) text) colon-split) if-formed
+    → read-nguid layer text ≡ next (next (after (nguid-start layer) text) colon-split) if-formed
 unfolding read-nguid
 short-enough layer text short = rw (le-leb (length text) nguid-width short) refl
 
 -- every step went on, and the form was tested
 pub formed : (layer : Layer) (text rest : List ℕ) (parts : NguidParts) (test : Bool) → length text ≤ nguid-width
-  → Some rest ≡ after (nguid-start layer) text → Some parts ≡ colon-split rest → test ≡ has-form parts
-  → cond test (Some parts) None ≡ read-nguid layer text
+    → Some rest ≡ after (nguid-start layer) text → Some parts ≡ colon-split rest → test ≡ has-form parts
+    → cond test (Some parts) None ≡ read-nguid layer text
 formed layer text rest parts test short begun split tested =
     ap (λ t. cond t (Some parts) None) tested
     ∙ (goes if-formed (split ∙ goes colon-split begun) ∙ sym (short-enough layer text short))
 
 split-sound : (front text : List ℕ) (parts : NguidParts) → split-after front text ≡ Some parts
-  → front ++ text ≡ parts .local ++ (colon ++ parts .agency)
+    → front ++ text ≡ parts .local ++ (colon ++ parts .agency)
 unfolding split-after
 split-sound front [] parts e = none-some parts e
 split-sound front (b ∷ bs) parts e =
     elim (either-way (eqb b 58) _ _ _ e) [
-      inl here ↦ rw (eqb-true b 58 (here .0)) (ap (λ p. p .local ++ (colon ++ p .agency)) (same-some _ _ (here .1)))
-    | inr later ↦ sym (append-assoc front (b ∷ []) bs) ∙ split-sound (front ++ (b ∷ [])) bs parts (later .1)
+      | inl here ↦ rw (eqb-true b 58 (here .0)) (ap (λ p. p .local ++ (colon ++ p .agency)) (same-some _ _ (here .1)))
+      | inr later ↦ sym (append-assoc front (b ∷ []) bs) ∙ split-sound (front ++ (b ∷ [])) bs parts (later .1)
     ]
 
 split-complete : (front local agency : List ℕ) → All (Allowed LocalIdentifier) local
-  → split-after front (local ++ (colon ++ agency)) ≡ Some (record { local = front ++ local; agency = agency })
+    → split-after front (local ++ (colon ++ agency)) ≡ Some (record { local = front ++ local; agency = agency })
 unfolding split-after
 split-complete front [] agency allowed = rw append-nil refl
 split-complete front (b ∷ bs) agency allowed =
@@ -125,13 +125,13 @@ sound layer text parts e =
     let tests = and-parts _ _ form in
     record {
       whole =
-        after-sound _ text _ (begun .1)
-        ∙ ap (λ rest. nguid-start layer ++ rest) (split-sound [] (begun .0) (found .0) (begun .2) ∙ ap (λ p. p .local ++ (colon ++ p .agency)) is);
+          after-sound _ text _ (begun .1)
+          ∙ ap (λ rest. nguid-start layer ++ rest) (split-sound [] (begun .0) (found .0) (begun .2) ∙ ap (λ p. p .local ++ (colon ++ p .agency)) is);
       within = leb-true _ _ (short .0);
       local-some = ltb-true _ _ (and-parts _ _ (tests .0) .0);
       agency-some = ltb-true _ _ (and-parts _ _ (tests .0) .1);
       local-bytes = every-byte-decides LocalIdentifier (parts .local) .0 (and-parts _ _ (tests .1) .0);
-      agency-bytes = every-byte-decides Agency (parts .agency) .0 (and-parts _ _ (tests .1) .1)
+      agency-bytes = every-byte-decides Agency (parts .agency) .0 (and-parts _ _ (tests .1) .1);
     }
 
 complete : (layer : Layer) (text : List ℕ) (parts : NguidParts) → NguidText layer text parts → read-nguid layer text ≡ Some parts
@@ -139,16 +139,16 @@ complete layer text parts form =
     let rest = parts .local ++ (colon ++ parts .agency) in
     let begun = after-complete (nguid-start layer) rest in
     let tests =
-      and-from _ _
-      (and-from _ _ (lt-ltb _ _ (form .local-some)) (lt-ltb _ _ (form .agency-some)))
-      (and-from _ _
-        (every-byte-decides LocalIdentifier (parts .local) .1 (form .local-bytes))
-        (every-byte-decides Agency (parts .agency) .1 (form .agency-bytes))) in
+    and-from _ _
+    (and-from _ _ (lt-ltb _ _ (form .local-some)) (lt-ltb _ _ (form .agency-some)))
+    (and-from _ _
+    (every-byte-decides LocalIdentifier (parts .local) .1 (form .local-bytes))
+    (every-byte-decides Agency (parts .agency) .1 (form .agency-bytes))) in
     sym
     (formed layer text rest parts true (form .within)
-      (sym (ap (after (nguid-start layer)) (form .whole) ∙ begun))
-      (sym (split-complete [] (parts .local) (parts .agency) (form .local-bytes)))
-      (sym tests))
+    (sym (ap (after (nguid-start layer)) (form .whole) ∙ begun))
+    (sym (split-complete [] (parts .local) (parts .agency) (form .local-bytes)))
+    (sym tests))
 
 pub nguid-exactly : (layer : Layer) (text : List ℕ) → Exactly (NguidText layer text) (read-nguid layer text)
 nguid-exactly layer text = record { sound = sound layer text; complete = complete layer text }

@@ -6,20 +6,23 @@ use mathlib.Core.Logic.{_⊎_, _≢_, inl, inr}
 use Prim.Native.Nat.{ℕ, _+_, _-_, _≤_, _<_}
 use lib.ListN.{length}
 use Rattle.std.proofs.shelf.Lists.{length-map}
+use native.Mathlib.Nat.{pow-le-pow-right}
 use native.Mathlib.Omega.{arith}
 use borrow.Author.Needs.{needs}
-use Rattle.std.specs.declared.option.Option.the-variants.{Some}
+use Rattle.std.specs.declared.option.Option.{Option}
+use Rattle.std.specs.declared.option.Option.the-variants.{Some, None}
 use Rattle.std.specs.shelf.Digits.{number, numberAfter, Under}
 use Rattle.std.specs.shelf.Text.{allDigits}
 use Rattle.std.specs.Text.{asciiDigit}
 use Rattle.std.proofs.shelf.Tests.{and-parts, and-from, cond-true, cases-lt}
 use Rattle.std.proofs.shelf.Ways.{tells}
 use Rattle.std.proofs.shelf.Decimals.{length-decimal-le, decimal-some, first-decimal, decimal-digit, digits-decimal, value-decimal}
+use Rattle.std.proofs.shelf.Digits.{number-lt}
 use Rattle.std.proofs.shelf.Numerals.{Numerals, numerals-by-fold, tells-allDigits}
 use Rattle.std.specs.Written.{decimal}
 use Rattle.promise.specs.Exactly.{Exactly}
 use Rattle.text.proofs.Inversions.{cond-apart, mapped-apart, none-some}
-use Rattle.text.specs.AddressNumber.{NumberText, ReadsBack, digits-of, digits-value, greatest-number, most-digits, read-number, spelled, well-begun, written-number}
+use Rattle.text.specs.AddressNumber.{NotPast, NumberText, ReadsBack, digits-of, digits-value, greatest-number, most-digits, read-number, spelled, well-begun, written-number}
 use Rattle.text.specs.declared.address_number.AddressNumber.{AddressNumber}
 
 under-digits : (text : List ℕ) → allDigits text ≡ true → Under 10 (digits-of text)
@@ -59,7 +62,7 @@ sound (b ∷ bs) place e =
       at-most-six = simp length-map (grind (arith, tells));
       no-leading-zero = leading b bs (begun .0) (and-parts _ _ (all .0) .0);
       spells = spells-digits (b ∷ bs) (all .0);
-      value = let is = sym (ap (λ p. p .value) (made .2)) in let told = all .1 in cc
+      value = let is = sym (ap (λ p. p .value) (made .2)) in let told = all .1 in cc;
     }
 
 well-spelled : (d : ℕ) (ds : List ℕ) → length (d ∷ ds) ≤ most-digits → (d ≢ 0) ⊎ (ds ≡ []) → well-begun (spelled (d ∷ ds)) ≡ true
@@ -76,6 +79,14 @@ complete text place form =
 pub number-exactly : (text : List ℕ) → Exactly (NumberText text) (read-number text)
 number-exactly text = record { sound = sound text; complete = complete text }
 
+pub not-past : (text : List ℕ) (answer : Option AddressNumber) → answer ≡ read-number text → NotPast answer
+not-past text None is = tt
+not-past text (Some place) is =
+    let form = sound text place (sym is) in
+    let digits = form .first ∷ form .rest in
+    let few = pow-le-pow-right {n = 10} (omega arith) (form .at-most-six) in
+    omega (arith, number-lt 10 digits (form .digits), few, form .value)
+
 own : Numerals (λ text. allDigits text ≡ true) (λ text. number 10 (digits-of text))
 own = numerals-by-fold _ tells-allDigits (λ n text. numberAfter 10 n (digits-of text)) (search needs)
 
@@ -84,8 +95,8 @@ decimal-begun n small =
     let few = length-decimal-le 6 n (omega arith) (omega arith) (omega arith) in
     let some = decimal-some n (omega arith) in
     elim (cases-lt 0 n) [
-      inl h ↦ let first = first-decimal n h (omega arith) in grind (arith, tells)
-    | inr h ↦ let one = decimal-digit n (omega arith) in rw one (grind (arith, tells))
+      | inl h ↦ let first = first-decimal n h (omega arith) in grind (arith, tells)
+      | inr h ↦ let one = decimal-digit n (omega arith) in rw one (grind (arith, tells))
     ]
 
 pub reads-back : ReadsBack

@@ -14,13 +14,14 @@ use Rattle.std.specs.shelf.Text.{allDigits}
 use Rattle.std.specs.Written.{decimal}
 use Rattle.text.specs.declared.address_number.AddressNumber.{AddressNumber}
 
+-- the most digits of a text, and the greatest number that they spell
 abbrev pub most-digits : ℕ
 most-digits = 6
 
 abbrev pub greatest-number : ℕ
 greatest-number = 999999
 
--- a place is written in at most so many bytes
+-- the most bytes that a number is written in
 abbrev pub written-width : ℕ
 written-width = 14
 
@@ -45,18 +46,23 @@ read-number text = cond (well-begun text) (mapped (λ n. record { value = n }) (
 
 -- the decimal digits of the number
 abbrev pub written-number : AddressNumber → List ℕ
-written-number place = decimal (place .value)
+written-number address = decimal (address .value)
 
 -- the text spells the number by its digits, the first of which is not 0 unless it is the only one
-pub record NumberText (text : List ℕ) (place : AddressNumber) : Type 0 where
+pub record NumberText (text : List ℕ) (address : AddressNumber) : Type 0 where
   pub first : ℕ
   pub rest : List ℕ
   pub digits : Under 10 (first ∷ rest)
   pub at-most-six : length (first ∷ rest) ≤ most-digits
   pub no-leading-zero : (first ≢ 0) ⊎ (rest ≡ [])
   pub spells : text ≡ spelled (first ∷ rest)
-  pub value : place .value ≡ number 10 (first ∷ rest)
+  pub value : address .value ≡ number 10 (first ∷ rest)
 
--- what is written of a number reads back as it
+-- a number that was read is not past the greatest
+abbrev pub NotPast : Option AddressNumber → Type 0
+NotPast None = Unit {0}
+NotPast (Some address) = address .value ≤ greatest-number
+
+-- what is written of a number up to the greatest reads back as it
 abbrev pub ReadsBack : Type 0
-ReadsBack = (place : AddressNumber) → place .value ≤ greatest-number → read-number (written-number place) ≡ Some place
+ReadsBack = (address : AddressNumber) → address .value ≤ greatest-number → read-number (written-number address) ≡ Some address

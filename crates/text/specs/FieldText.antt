@@ -36,10 +36,12 @@ is-directional NumberPrefix = false
 is-directional NumberSuffix = false
 is-directional Unit = false
 
+-- the text is one of the words
 unfoldable pub one-of : List (List ℕ) → List ℕ → Bool
 one-of [] text = false
 one-of (word ∷ words) text = sameBytes text word || one-of words text
 
+-- no space first, none last, within the width, and printable
 abbrev pub is-plain-text : ℕ → List ℕ → Bool
 is-plain-text width text =
     (not (eqb (getD text 0 0) 32) && not (eqb (getD text (length text - 1) 0) 32))
@@ -54,6 +56,6 @@ is-field-text field text =
 pub record FieldText (field : TextField) (text : List ℕ) : Type 0 where
   pub printable : All (Allowed Printable) text
   pub within : length text ≤ width-of field
-  pub first : (rest : List ℕ) → text ≢ 32 ∷ rest
-  pub last : (front : List ℕ) → text ≢ front ++ (32 ∷ [])
+  pub no-first-space : (rest : List ℕ) → text ≢ 32 ∷ rest
+  pub no-last-space : (front : List ℕ) → text ≢ front ++ (32 ∷ [])
   pub direction : is-directional field ≡ true → (text ≡ []) ⊎ Has directions text

@@ -14,6 +14,7 @@ use Rattle.text.specs.declared.field_text.TextField.{TextField}
 use Rattle.text.specs.declared.field_text.TextField.the-variants.{PreModifier, PreDirectional, PreType, PreSeparator, StreetName, PostType, PostDirectional, PostModifier}
 use Rattle.text.specs.declared.full_name.FullName.{FullName}
 
+-- the name that a full name holds
 abbrev pub name-of : FullName → List ℕ
 name-of full = take (full .length) (full .bytes)
 
@@ -21,12 +22,13 @@ abbrev pub present : List ℕ → Bool
 present [] = false
 present (byte ∷ bytes) = true
 
--- one space between neighbours
+-- texts with one space between neighbours
 unfoldable pub spaced : List (List ℕ) → List ℕ
 spaced [] = []
 spaced (element ∷ []) = element
 spaced (element ∷ (other ∷ others)) = element ++ (32 ∷ spaced (other ∷ others))
 
+-- the elements that are present, joined by one space
 unfoldable pub joined : List (List ℕ) → List ℕ
 joined elements = spaced (kept-by present elements)
 
@@ -42,6 +44,7 @@ separator name element = cond (present name && present element) (32 ∷ []) []
 abbrev pub name-with : List ℕ → List ℕ → List ℕ
 name-with name element = name ++ (separator name element ++ element)
 
+-- whether it fits, and the name after it was pushed: where it does not fit, as before
 abbrev pub fits : List ℕ → List ℕ → Bool
 fits name element = leb (length (name-with name element)) full-name-width
 

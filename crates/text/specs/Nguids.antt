@@ -26,6 +26,7 @@ layer-text Road = codes "RCL"
 layer-text AddressPoint = codes "SSAP"
 layer-text Alias = codes "SNA"
 
+-- what tells an NGUID from the others of its layer
 pub record NguidParts : Type 0 where
   pub local : List ℕ
   pub agency : List ℕ
@@ -67,6 +68,7 @@ split-after front (byte ∷ rest) =
 abbrev pub colon-split : List ℕ → Option NguidParts
 colon-split text = split-after [] text
 
+-- both parts have bytes, and only bytes of their alphabet
 abbrev pub has-form : NguidParts → Bool
 has-form parts =
     (ltb 0 (length (parts .local)) && ltb 0 (length (parts .agency)))
@@ -75,6 +77,7 @@ has-form parts =
 abbrev pub if-formed : NguidParts → Option NguidParts
 if-formed parts = cond (has-form parts) (Some parts) None
 
+-- the next step, where there was an answer
 abbrev pub next : {A B : Type 0} → Option A → (A → Option B) → Option B
 next None f = None
 next (Some a) f = f a

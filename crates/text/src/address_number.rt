@@ -2,7 +2,7 @@
 ghost use Prim.Native.Nat.{_≤_};
 ghost use Rattle.promise.specs.Exactly.{Exactly};
 ghost use Rattle.std.specs.Written.{decimal};
-ghost use Rattle.text.specs.AddressNumber.{NumberText, ReadsBack, digits-value, most-digits, read-number, written-number, written-width};
+ghost use Rattle.text.specs.AddressNumber.{NotPast, NumberText, ReadsBack, digits-value, most-digits, read-number, written-number, written-width};
 ghost use lib.ListN.{drop, length};
 ghost use mathlib.Core.List.{_++_};
 ghost use mathlib.Core.Path.{_≡_};
@@ -20,6 +20,7 @@ impl AddressNumber {
     pub fn read(text: &[u8]) -> Option<AddressNumber>
         ensures reads { λ r. ⌜ r ≡ read-number (now (text .entry)) ⌝ }
         ensures exactly { λ r. ⌜ Exactly (NumberText (now (text .entry))) r ⌝ }
+        ensures not_past { λ r. ⌜ NotPast r ⌝ }
         ensures reads_back { λ _. ⌜ ReadsBack ⌝ }
     {
         read_number(text)
@@ -71,7 +72,11 @@ fn put_digits(number: u32, out: &mut [u8]) -> usize
     ensures writes { λ r. ⌜ now (out .exit) ≡ decimal number ++ drop r (now (out .entry)) ⌝ }
     ensures few { λ r. ⌜ (1 ≤ r) × (r ≤ 10) ⌝ }
 {
-    let before = if number < 10 { 0 } else { put_digits(number / 10, out) };
+    let before = if number < 10 {
+        0
+    } else {
+        put_digits(number / 10, out)
+    };
     out[before] = b'0' + (number % 10) as u8;
     before + 1
 }

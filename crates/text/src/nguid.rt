@@ -86,7 +86,10 @@ fn split_at_colon<'a>(text: &'a [u8]) -> Option<Nguid<'a>>
 {
     for (place, byte) in text.iter().enumerate() {
         if *byte == b':' {
-            return Some(Nguid { local: &text[0..place], agency: &text[place + 1..text.len()] });
+            return Some(Nguid {
+                local: &text[0..place],
+                agency: &text[place + 1..text.len()],
+            });
         }
     }
     None

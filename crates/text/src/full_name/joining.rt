@@ -16,7 +16,10 @@ impl FullName {
         ensures empty { λ r. ⌜ name-of r ≡ [] ⌝ }
         ensures bytes { λ r. ⌜ r .bytes ≡ replicate full-name-width 0 ⌝ }
     {
-        FullName { bytes: [0; FULL_NAME_WIDTH], length: 0 }
+        FullName {
+            bytes: [0; FULL_NAME_WIDTH],
+            length: 0,
+        }
     }
 
     /// The full name of the elements, in their order, unless it does not fit.
@@ -53,7 +56,11 @@ impl FullName {
     fn separator(&self, element: &[u8]) -> &'static [u8]
         ensures { λ r. ⌜ now r ≡ separator (name-of (now (self .entry))) (now (element .entry)) ⌝ }
     {
-        if self.length > 0 && !element.is_empty() { b" " } else { b"" }
+        if self.length > 0 && !element.is_empty() {
+            b" "
+        } else {
+            b""
+        }
     }
 
     fn append(&mut self, more: &[u8])

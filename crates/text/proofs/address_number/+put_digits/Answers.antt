@@ -17,24 +17,24 @@ record Begun (n before : ℕ) (was now : List ℕ) : Type 0 where
   out : now ≡ front ++ drop before was
 
 begun : (t : ℕ) (c : need.Joined-number-lt10 t)
-  → Begun (c .args .number) (c .if-number-lt10 .before) (c .args .out .now) (c .if-number-lt10 .out)
+    → Begun (c .args .number) (c .if-number-lt10 .before) (c .args .out .now) (c .if-number-lt10 .out)
 begun t c =
     elim (c .if-number-lt10 .came) [
-      then-number-lt10 w ↦
-        let small : c .args .number % 10 ≡ c .args .number = omega arith in
-        record {
-          front = [];
-          number = rw small (decimal-digit _ (w .if-number-lt10 .taken));
-          count = w .before-is;
-          out = rw (w .before-is) (w .out-is)
-        }
-    | else-number-lt10 w ↦
-        record {
-          front = decimal (c .args .number / 10);
-          number = decimal-step _ (w .if-number-lt10 .left) (omega arith);
-          count = w .before-is ∙ w .put-digits-before .ensures .count;
-          out = rw (w .before-is) (w .out-is ∙ w .put-digits-before .ensures .writes)
-        }
+      | then-number-lt10 w ↦
+          let small : c .args .number % 10 ≡ c .args .number = omega arith in
+          record {
+            front = [];
+            number = rw small (decimal-digit _ (w .if-number-lt10 .taken));
+            count = w .before-is;
+            out = rw (w .before-is) (w .out-is);
+          }
+      | else-number-lt10 w ↦
+          record {
+            front = decimal (c .args .number / 10);
+            number = decimal-step _ (w .if-number-lt10 .left) (omega arith);
+            count = w .before-is ∙ w .put-digits-before .ensures .count;
+            out = rw (w .before-is) (w .out-is ∙ w .put-digits-before .ensures .writes);
+          }
     ]
 
 length-number : {n before : ℕ} {was now : List ℕ} → Begun n before was now → length (decimal n) ≡ before + 1
@@ -50,7 +50,7 @@ pub add-result : need.add-result
 add-result t c = omega (arith, length-number (begun t (need.at·add-result t c .Joined-number-lt10)), few (c .args .number) (omega arith))
 
 last : (n before : ℕ) (was now : List ℕ) → Begun n before was now → before < length was
-  → set now before (48 + n % 10) ≡ decimal n ++ drop (before + 1) was
+    → set now before (48 + n % 10) ≡ decimal n ++ drop (before + 1) was
 last n before was now b h =
     rw (b .out, drop-more was before 0, b .number, append-assoc) (set-at (b .front) _ _ _ before (sym (b .count)))
 

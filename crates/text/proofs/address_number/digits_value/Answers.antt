@@ -21,12 +21,11 @@ pub loop-byte-again : need.loop-byte-again
 loop-byte-again c =
     let text = c .args .text .now in
     let i = c .loop-byte .byte-index in
-    let h = c .loop-byte-test .taken in
-    (
+    let h = c .loop-byte-test .taken in (
       ap (λ here. here && allDigits (drop (i + 1) text)) (c .if-not-is-ascii-digit .ensures tt .value)
-        ∙ (sym (at-drop-more allDigits text i 0 h) ∙ c .loop-byte .inv .0),
+          ∙ (sym (at-drop-more allDigits text i 0 h) ∙ c .loop-byte .inv .0),
       rw (c .from .ensures) (sym (at-drop-more (λ xs. numberAfter 10 (c .loop-byte .value) (digits-of xs)) text i 0 h) ∙ c .loop-byte .inv .1),
-      rw (add-one, pow-suc) (omega (arith, c .if-not-is-ascii-digit .ensures tt .cases))
+      rw (add-one, pow-suc) (omega (arith, c .if-not-is-ascii-digit .ensures tt .cases)),
     )
 
 pub returns : need.returns

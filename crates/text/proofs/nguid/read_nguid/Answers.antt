@@ -9,7 +9,7 @@ returns-then-text-gt-NGUID-WIDTH c = too-long _ _ (c .if-text-gt-NGUID-WIDTH .ta
 
 pub returns-in-Break-rest : need.returns-in-Break-rest
 returns-in-Break-rest c =
-    rw (c .from-residual .ensures) 
+    rw (c .from-residual .ensures)
     (stops _ (stops _ (c .in-Break-rest .ensures tt)) ∙ sym (short-enough _ _ (c .if-text-gt-NGUID-WIDTH .left)))
 
 pub returns-in-Break-nguid : need.returns-in-Break-nguid

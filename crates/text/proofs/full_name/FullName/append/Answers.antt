@@ -12,5 +12,5 @@ returns c =
     record {
       length = refl;
       name = rw (c .copy-from-slice .ensures .after) (put-name _ _ _ _ room);
-      bytes = rw (c .copy-from-slice .ensures .after) (put-over _ _ _ _ room (omega arith))
+      bytes = rw (c .copy-from-slice .ensures .after) (put-over _ _ _ _ room (omega arith));
     }

@@ -9,8 +9,8 @@ returns-then-self-separator-gt-FULL-NAME-WIDTH c =
     let self = c .args .self .now in
     let within : self .length ≤ length (self .bytes) = omega arith in
     let told =
-      refused _ _ (c .args .element .now) _ within (c .separator-separator .ensures)
-      (c .if-self-separator-gt-FULL-NAME-WIDTH .taken) in
+    refused _ _ (c .args .element .now) _ within (c .separator-separator .ensures)
+    (c .if-self-separator-gt-FULL-NAME-WIDTH .taken) in
     record { fits = told .answers; name = told .name; bytes = told .bytes }
 
 pub returns : need.returns
@@ -18,7 +18,7 @@ returns c =
     let self = c .args .self .now in
     let within : self .length ≤ length (self .bytes) = omega arith in
     let told =
-      accepted _ _ (c .args .element .now) _ _ _ _ _ within (c .separator-separator .ensures)
-      (c .if-self-separator-gt-FULL-NAME-WIDTH .left)
-      (c .append .ensures .name) (c .append .ensures .bytes) (c .append-2 .ensures .name) (c .append-2 .ensures .bytes) in
+    accepted _ _ (c .args .element .now) _ _ _ _ _ within (c .separator-separator .ensures)
+    (c .if-self-separator-gt-FULL-NAME-WIDTH .left)
+    (c .append .ensures .name) (c .append .ensures .bytes) (c .append-2 .ensures .name) (c .append-2 .ensures .bytes) in
     record { fits = told .answers; name = told .name; bytes = told .bytes }
