@@ -1,1 +1,4 @@
 pub mod Calendar
+pub mod DateTime
+pub mod Form
+pub mod Reading
