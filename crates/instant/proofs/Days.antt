@@ -59,16 +59,19 @@ days-from-1900-le year month day h =
     let bounds : (year ≤ last-year) × (month ≤ 12) × (day ≤ 31) = grind (arith, tells) in
     omega (arith, days-of-years-le (year - first-year), days-of-months-le (leap year) (month - 1))
 
+pub days-near : (year month day : ℕ) → is-date year month day ≡ true → (negsuc 120000 ≤ℤ days-from-1970 year month day) × (days-from-1970 year month day ≤ℤ pos 120000)
+days-near year month day h =
+    let there = days-from-1900-le year month day h in
+    let here = days-from-1900-le 1970 1 1 refl in
+    (omega (arith, ints), omega (arith, ints))
+
 -- a day that the calendar has, for code that goes on to count in seconds
 pub record Near (year month day : ℕ) (days : ℤ) : Type 0 where
   pub date : is-date year month day ≡ true
   pub value : days ≡ days-from-1970 year month day
-  pub low : negsuc 120000 ≤ℤ days
-  pub high : days ≤ℤ pos 120000
+  pub bounds : (negsuc 120000 ≤ℤ days) × (days ≤ℤ pos 120000)
 
 pub calendar-day-near : (year month day : ℕ) (days : ℤ) → Some days ≡ calendar-day year month day → Near year month day days
 calendar-day-near year month day days e =
     let found : (is-date year month day ≡ true) × (days ≡ days-from-1970 year month day) = grind arith in
-    let there = days-from-1900-le year month day (found .0) in
-    let here = days-from-1900-le 1970 1 1 refl in
-    record { date = found .0; value = found .1; low = omega (arith, ints); high = omega (arith, ints) }
+    record { date = found .0; value = found .1; bounds = rw (found .1) (days-near year month day (found .0)) }

@@ -1,2 +1,4 @@
 mod Days
+mod Found
+mod Near
 mod Shapes

@@ -7,29 +7,28 @@ use lib.Chars.{codes}
 use lib.Dec.{leb}
 use lib.IntN.{ℤ, pos, negℤ, _+ℤ_, _-ℤ_, _*ℤ_}
 use Rattle.instant.specs.declared.date_time.Instant.{Instant}
+use Rattle.instant.specs.declared.local_time.LocalTime.{LocalTime}
 use Rattle.instant.specs.Calendar.{days-from-1970, is-date}
 use Rattle.instant.specs.Form.{digits1, digits2, digits4}
 
--- hours 00 to 23, minutes and seconds 00 to 59
-abbrev pub is-clock : ℕ → ℕ → ℕ → Bool
-is-clock hour minute second = leb hour 23 && (leb minute 59 && leb second 59)
+-- hours 00 to 23, minutes and seconds 00 to 59, on a date of the calendar
+abbrev pub is-time : LocalTime → Bool
+is-time t = is-date (t .year) (t .month) (t .day) && (leb (t .hour) 23 && (leb (t .minute) 59 && leb (t .second) 59))
 
-abbrev pub seconds-from-1970 : (year month day hour minute second : ℕ) → ℤ
-seconds-from-1970 year month day hour minute second =
-    pos 86400 *ℤ days-from-1970 year month day +ℤ pos (3600 * hour + 60 * minute + second)
+abbrev pub seconds-from-1970 : LocalTime → ℤ
+seconds-from-1970 t =
+    pos 86400 *ℤ days-from-1970 (t .year) (t .month) (t .day) +ℤ pos (3600 * t .hour + 60 * t .minute + t .second)
+
+abbrev pub written : LocalTime → List ℕ
+written t =
+    digits4 (t .year) ++ codes "-" ++ digits2 (t .month) ++ codes "-" ++ digits2 (t .day) ++ codes "T" ++ digits2 (t .hour) ++ codes ":" ++ digits2 (t .minute) ++ codes ":" ++ digits2 (t .second)
 
 -- `2020-01-28T15:47:09` tells the seconds from 1970 by the clock of its place
 pub record Local (text : List ℕ) (seconds : ℤ) : Type 0 where
-  pub year : ℕ
-  pub month : ℕ
-  pub day : ℕ
-  pub hour : ℕ
-  pub minute : ℕ
-  pub second : ℕ
-  pub written : text ≡ digits4 year ++ codes "-" ++ digits2 month ++ codes "-" ++ digits2 day ++ codes "T" ++ digits2 hour ++ codes ":" ++ digits2 minute ++ codes ":" ++ digits2 second
-  pub date : is-date year month day ≡ true
-  pub clock : is-clock hour minute second ≡ true
-  pub value : seconds ≡ seconds-from-1970 year month day hour minute second
+  pub time : LocalTime
+  pub form : text ≡ written time
+  pub limits : is-time time ≡ true
+  pub value : seconds ≡ seconds-from-1970 time
 
 -- nothing, or `.3`
 pub data Fraction (text : List ℕ) (tenths : ℕ) : Type 0 where
@@ -44,7 +43,7 @@ is-offset hours minutes = leb minutes 59 && leb (60 * hours + minutes) (60 * 14)
 pub record Offset (text : List ℕ) (offset : ℕ) : Type 0 where
   pub hours : ℕ
   pub minutes : ℕ
-  pub written : text ≡ digits2 hours ++ codes ":" ++ digits2 minutes
+  pub form : text ≡ digits2 hours ++ codes ":" ++ digits2 minutes
   pub limits : is-offset hours minutes ≡ true
   pub value : offset ≡ 60 * hours + minutes
 
@@ -54,9 +53,9 @@ pub data Zone (text : List ℕ) (ahead : ℤ) : Type 0 where
   plus : (rest : List ℕ) (offset : ℕ) → text ≡ codes "+" ++ rest → Offset rest offset → ahead ≡ pos offset → Zone text ahead
   minus : (rest : List ℕ) (offset : ℕ) → text ≡ codes "-" ++ rest → Offset rest offset → ahead ≡ negℤ (pos offset) → Zone text ahead
 
--- local time less the signed zone, in tenths of a second
-abbrev pub instant-at : (seconds : ℤ) (tenths : ℕ) (ahead : ℤ) → Instant
-instant-at seconds tenths ahead = record { tenths = pos 10 *ℤ (seconds -ℤ pos 60 *ℤ ahead) +ℤ pos tenths }
+-- local time less the signed zone, both in tenths of a second
+abbrev pub instant-at : (local ahead : ℤ) → Instant
+instant-at local ahead = record { tenths = local -ℤ pos 600 *ℤ ahead }
 
 pub record Tells (text : List ℕ) (instant : Instant) : Type 0 where
   pub local : List ℕ
@@ -69,4 +68,4 @@ pub record Tells (text : List ℕ) (instant : Instant) : Type 0 where
   pub of-local : Local local seconds
   pub of-fraction : Fraction fraction tenths
   pub of-zone : Zone zone ahead
-  pub value : instant ≡ instant-at seconds tenths ahead
+  pub value : instant ≡ instant-at (pos 10 *ℤ seconds +ℤ pos tenths) ahead

@@ -5,35 +5,31 @@ use mathlib.Core.Path.{_≡_}
 use Prim.Native.Nat.{ℕ, _+_, _*_}
 use lib.Chars.{codes}
 use lib.Dec.{eqb}
-use lib.IntN.{ℤ, pos, negℤ}
+use lib.IntN.{ℤ, pos, negℤ, _+ℤ_, _*ℤ_}
 use lib.ListN.{take, drop}
 use Rattle.std.specs.Options.{mapped}
 use Rattle.std.specs.declared.option.Option.{Option}
 use Rattle.std.specs.declared.option.Option.the-variants.{Some, None}
 use Rattle.instant.specs.declared.date_time.Instant.{Instant}
-use Rattle.instant.specs.Calendar.{is-date}
-use Rattle.instant.specs.DateTime.{is-clock, is-offset, seconds-from-1970, instant-at}
+use Rattle.instant.specs.declared.local_time.LocalTime.{LocalTime}
+use Rattle.instant.specs.DateTime.{is-time, is-offset, seconds-from-1970, instant-at}
 use Rattle.instant.specs.Form.{has-form, one-digit, two-digits}
 
-abbrev pub clock-reading : (year month day hour minute second : ℕ) → Option ℤ
-clock-reading year month day hour minute second =
-    cond
-    (is-date year month day && is-clock hour minute second)
-    (Some (seconds-from-1970 year month day hour minute second))
-    None
+abbrev pub time-at : List ℕ → LocalTime
+time-at text =
+    record
+    { year = 100 * two-digits text 0 + two-digits text 2
+    ; month = two-digits text 5
+    ; day = two-digits text 8
+    ; hour = two-digits text 11
+    ; minute = two-digits text 14
+    ; second = two-digits text 17 }
 
-abbrev pub local-in : List ℕ → Option ℤ
-local-in text =
-    cond
-    (has-form (codes "0000-00-00T00:00:00") text)
-    (clock-reading
-    (100 * two-digits text 0 + two-digits text 2)
-    (two-digits text 5)
-    (two-digits text 8)
-    (two-digits text 11)
-    (two-digits text 14)
-    (two-digits text 17))
-    None
+abbrev pub time-in : List ℕ → Option LocalTime
+time-in text = cond (has-form (codes "0000-00-00T00:00:00") text) (Some (time-at text)) None
+
+abbrev pub seconds-in : LocalTime → Option ℤ
+seconds-in time = cond (is-time time) (Some (seconds-from-1970 time)) None
 
 abbrev pub offset-reading : (hours minutes : ℕ) → Option ℕ
 offset-reading hours minutes = cond (is-offset hours minutes) (Some (60 * hours + minutes)) None
@@ -55,12 +51,13 @@ abbrev pub rest-in : (seconds : ℤ) → List ℕ → Option Instant
 rest-in seconds rest =
     cond
     (has-form (codes ".0") (take 2 rest))
-    (mapped (instant-at seconds (one-digit rest 1)) (zone-in (drop 2 rest)))
-    (mapped (instant-at seconds 0) (zone-in rest))
+    (mapped (instant-at (pos 10 *ℤ seconds +ℤ pos (one-digit rest 1))) (zone-in (drop 2 rest)))
+    (mapped (instant-at (pos 10 *ℤ seconds)) (zone-in rest))
 
-abbrev pub after-local : Option ℤ → List ℕ → Option Instant
-after-local None rest = None
-after-local (Some seconds) rest = rest-in seconds rest
+-- the answer of a step that follows where there was one
+abbrev pub then : {U V : Type 0} → Option U → (U → Option V) → Option V
+then None next = None
+then (Some u) next = next u
 
 abbrev pub instant-in : List ℕ → Option Instant
-instant-in text = after-local (local-in (take 19 text)) (drop 19 text)
+instant-in text = then (then (time-in (take 19 text)) seconds-in) (λ seconds. rest-in seconds (drop 19 text))

@@ -1,10 +1,14 @@
-// Reading W3C XML Schema dateTime texts.
+// Instants, and the W3C XML Schema dateTime texts that tell them.
 
-ghost use lib.ListN.{length};
+ghost use lib.IntN.{pos, negsuc};
+ghost use lib.Signed.{_≤ℤ_};
 ghost use mathlib.Core.Path.{_≡_};
-ghost use Rattle.instant.specs.Reading.{clock-reading, local-in, offset-in, zone-in, instant-in};
-use crate::calendar::days_from_1970;
-use crate::form::{begins, has_form, one_digit, two_digits};
+ghost use Rattle.std.specs.Options.{mapped};
+ghost use Rattle.instant.specs.DateTime.{instant-at};
+ghost use Rattle.instant.specs.Reading.{zone-in, rest-in, instant-in};
+use crate::form::{begins, one_digit};
+use crate::local_time::LocalTime;
+use crate::zone::zone_minutes;
 
 // Tenths of a second from 1970-01-01T00:00:00Z, negative before it.
 #[derive(Clone, Copy)]
@@ -12,52 +16,31 @@ pub struct Instant {
     pub tenths: i64,
 }
 
-// The seconds from 1970-01-01T00:00:00 by the same clock.
-fn seconds_from_1970(year: u32, month: u32, day: u32, hour: u32, minute: u32, second: u32) -> Option<i64>
-    ensures { λ r. ⌜ r ≡ clock-reading year month day hour minute second ⌝ }
+// Local time less the signed zone.
+fn instant_at(local: i64, zone: &[u8]) -> Option<Instant>
+    requires { ⌜ negsuc 200000000000 ≤ℤ local ⌝ ∗ ⌜ local ≤ℤ pos 200000000000 ⌝ }
+    ensures { λ r. ⌜ r ≡ mapped (instant-at local) (zone-in (now (zone .entry))) ⌝ }
 {
-    let days = days_from_1970(year, month, day)?;
-    if hour <= 23 && minute <= 59 && second <= 59 {
-        Some(86_400 * days + i64::from(3600 * hour + 60 * minute + second))
+    let ahead = zone_minutes(zone)?;
+    Some(Instant { tenths: local - 600 * ahead })
+}
+
+// What follows the seconds: a point and a digit or neither, and the zone.
+fn instant_after(seconds: i64, rest: &[u8]) -> Option<Instant>
+    requires { ⌜ negsuc 15000000000 ≤ℤ seconds ⌝ ∗ ⌜ seconds ≤ℤ pos 15000000000 ⌝ }
+    ensures { λ r. ⌜ r ≡ rest-in seconds (now (rest .entry)) ⌝ }
+{
+    if begins(b".0", rest) {
+        instant_at(10 * seconds + i64::from(one_digit(rest, 1)), &rest[2..])
     } else {
-        None
+        instant_at(10 * seconds, rest)
     }
 }
 
-fn local_seconds(text: &[u8]) -> Option<i64>
-    ensures { λ r. ⌜ r ≡ local-in (now (text .entry)) ⌝ }
+fn parse(text: &[u8]) -> Option<Instant>
+    ensures { λ r. ⌜ r ≡ instant-in (now (text .entry)) ⌝ }
 {
-    if !has_form(b"0000-00-00T00:00:00", text) {
-        return None;
-    }
-    let year = 100 * two_digits(text, 0) + two_digits(text, 2);
-    let (month, day) = (two_digits(text, 5), two_digits(text, 8));
-    let (hour, minute, second) = (two_digits(text, 11), two_digits(text, 14), two_digits(text, 17));
-    seconds_from_1970(year, month, day, hour, minute, second)
-}
-
-// The minutes of a zone's `+hh:mm` or `-hh:mm`, without the sign.
-fn offset_minutes(text: &[u8]) -> Option<u32>
-    requires { ⌜ length (now text) ≡ 6 ⌝ }
-    ensures { λ r. ⌜ r ≡ offset-in (now (text .entry)) ⌝ }
-{
-    let (hours, minutes) = (two_digits(text, 1), two_digits(text, 4));
-    let offset = 60 * hours + minutes;
-    if minutes <= 59 && offset <= 60 * 14 { Some(offset) } else { None }
-}
-
-// The minutes that a zone's clock is ahead of UTC, negative where it is behind.
-fn zone_minutes(text: &[u8]) -> Option<i64>
-    ensures { λ r. ⌜ r ≡ zone-in (now (text .entry)) ⌝ }
-{
-    if has_form(b"Z", text) {
-        return Some(0);
-    }
-    if has_form(b"+00:00", text) {
-        return Some(i64::from(offset_minutes(text)?));
-    }
-    if has_form(b"-00:00", text) {
-        return Some(-i64::from(offset_minutes(text)?));
-    }
-    None
+    let (local, rest) = text.split_at_checked(19)?;
+    let seconds = LocalTime::read(local)?.seconds_from_1970()?;
+    instant_after(seconds, rest)
 }

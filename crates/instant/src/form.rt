@@ -1,6 +1,6 @@
 // Texts of a fixed layout.
 
-ghost use Prim.Native.Nat.{_+_, _<_};
+ghost use Prim.Native.Nat.{_+_, _≤_, _<_};
 ghost use lib.ListN.{length, take};
 ghost use mathlib.Core.Bool.{true};
 ghost use mathlib.Core.Path.{_≡_};
@@ -30,7 +30,8 @@ pub(crate) fn has_form(form: &[u8], text: &[u8]) -> bool
 
 // Whether the text's front has the form.
 pub(crate) fn begins(form: &[u8], text: &[u8]) -> bool
-    ensures { λ r. ⌜ r ≡ has-form (now (form .entry)) (take (length (now (form .entry))) (now (text .entry))) ⌝ }
+    ensures length { λ r. ⌜ (r ≡ true → length (now (form .entry)) ≤ length (now (text .entry))) ⌝ }
+    ensures meaning { λ r. ⌜ r ≡ has-form (now (form .entry)) (take (length (now (form .entry))) (now (text .entry))) ⌝ }
 {
     form.len() <= text.len() && has_form(form, &text[0..form.len()])
 }

@@ -3,3 +3,5 @@
 pub mod calendar;
 pub mod date_time;
 mod form;
+mod local_time;
+mod zone;

@@ -4,4 +4,4 @@ use Rattle.instant.proofs.Shapes.{form-apart}
 use Rattle.instant.proofs.form.begins.Needs as need
 
 pub returns-else-form-text : need.returns-else-form-text
-returns-else-form-text c = search (needs, form-apart, length-take)
+returns-else-form-text c = record { length = search needs; meaning = search (needs, form-apart, length-take) }
