@@ -1,4 +1,9 @@
 mod Days
+mod Digits
+mod Exact
 mod Found
 mod Near
+mod Rests
 mod Shapes
+mod Times
+mod Zones
