@@ -1,3 +1,4 @@
+mod Bounds
 mod Days
 mod Digits
 mod Exact

@@ -1,4 +1,5 @@
 pub mod Calendar
 pub mod DateTime
 pub mod Form
+pub mod Limits
 pub mod Reading

@@ -3,8 +3,10 @@
 ghost use lib.IntN.{pos, negsuc};
 ghost use lib.Signed.{_≤ℤ_};
 ghost use mathlib.Core.Path.{_≡_};
+ghost use Rattle.promise.specs.Exactly.{Exactly};
 ghost use Rattle.std.specs.Options.{mapped};
-ghost use Rattle.instant.specs.DateTime.{instant-at};
+ghost use Rattle.instant.specs.DateTime.{instant-at, Tells};
+ghost use Rattle.instant.specs.Limits.{SomeWithin};
 ghost use Rattle.instant.specs.Reading.{zone-in, rest-in, instant-in};
 use crate::form::{begins, one_digit};
 use crate::local_time::LocalTime;
@@ -43,4 +45,15 @@ fn parse(text: &[u8]) -> Option<Instant>
     let (local, rest) = text.split_at_checked(19)?;
     let seconds = LocalTime::read(local)?.seconds_from_1970()?;
     instant_after(seconds, rest)
+}
+
+impl Instant {
+    // Reads `YYYY-MM-DDThh:mm:ss`, a point and a digit or neither, and `Z` or a sign and `hh:mm`.
+    pub fn read(text: &[u8]) -> Option<Instant>
+        ensures meaning { λ r. ⌜ r ≡ instant-in (now (text .entry)) ⌝ }
+        ensures exactly { λ r. ⌜ Exactly (Tells (now (text .entry))) r ⌝ }
+        ensures within { λ r. ⌜ SomeWithin r ⌝ }
+    {
+        parse(text)
+    }
 }
