@@ -1,1 +1,3 @@
 pub mod Exactly
+pub mod First
+pub mod Reasons

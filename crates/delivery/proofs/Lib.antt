@@ -1,0 +1,4 @@
+pub mod Decided
+pub mod Refused
+pub mod Sharing
+pub mod Taking

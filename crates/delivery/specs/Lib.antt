@@ -1,0 +1,7 @@
+pub mod Contents
+pub mod Kinds
+pub mod Opened
+pub mod Opening
+pub mod Refusals
+pub mod Rules
+pub mod Taken

@@ -1,0 +1,25 @@
+// Why a delivery is not opened.
+ghost use mathlib.Core.Path.{_≡_};
+ghost use Rattle.delivery.specs.Refusals.{refusal-number};
+
+#[derive(Clone, Copy)]
+pub enum DeliveryRefusal {
+    // The size is out of limits, or too many entries are listed, or the table does not fit.
+    NoTable,
+    // This entry has another kind, or a body not wholly after the table and inside the delivery.
+    BadEntry(usize),
+    // The body of this entry shares a byte with an earlier one.
+    SharedByte(usize),
+}
+
+impl DeliveryRefusal {
+    pub fn number(self) -> u8
+        ensures { λ r. ⌜ r ≡ refusal-number self ⌝ }
+    {
+        match self {
+            DeliveryRefusal::NoTable => 1,
+            DeliveryRefusal::BadEntry(_) => 2,
+            DeliveryRefusal::SharedByte(_) => 3,
+        }
+    }
+}
