@@ -3,6 +3,7 @@ mod Days
 mod Digits
 mod Exact
 mod Found
+mod InOrder
 mod Near
 mod Rests
 mod Shapes
