@@ -46,15 +46,17 @@ read-within text = some-within text (instant-in text) refl
 instant-or-exactly : (missing : Instant) (text : List ℕ) → Exactly (TellsOr missing text) (instant-or missing text)
 unfolding has-form
 instant-or-exactly missing [] =
-    record
-    { sound = λ instant e. inl (refl, grind arith)
-    ; complete = λ instant m.
-        elim m [ inl same ↦ rw (same .1) | inr tells ↦ absurd (let e = instant-exactly [] .complete instant tells in grind arith) ] }
+    record {
+      sound = λ instant e. inl (refl, grind arith);
+      complete = λ instant m.
+          elim m [ inl same ↦ rw (same .1) | inr tells ↦ absurd (let e = instant-exactly [] .complete instant tells in grind arith) ];
+    }
 instant-or-exactly missing (byte ∷ text) =
-    record
-    { sound = λ instant e. inr (instant-exactly (byte ∷ text) .sound instant e)
-    ; complete = λ instant m.
-        elim m [ inl same ↦ absurd (let e = same .0 in grind arith) | inr tells ↦ instant-exactly (byte ∷ text) .complete instant tells ] }
+    record {
+      sound = λ instant e. inr (instant-exactly (byte ∷ text) .sound instant e);
+      complete = λ instant m.
+          elim m [ inl same ↦ absurd (let e = same .0 in grind arith) | inr tells ↦ instant-exactly (byte ∷ text) .complete instant tells ];
+    }
 
 pub exactly-or : (missing : Instant) (text : List ℕ) (r : Option Instant) → r ≡ instant-or missing text → Exactly (TellsOr missing text) r
 exactly-or missing text r e = rw e (instant-or-exactly missing text)

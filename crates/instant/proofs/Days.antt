@@ -5,11 +5,11 @@ use Prim.Native.Nat.{ℕ, zero, suc, _+_, _-_, _*_, _/_, _≤_, _<_}
 use native.Mathlib.Numerals.{unary-clauses}
 use native.Mathlib.Omega.{arith}
 use lib.Dec.{eqb}
-use lib.IntN.{ℤ, pos, negsuc}
-use lib.Signed.{_≤ℤ_}
+use lib.IntN.{ℤ}
 use Rattle.std.specs.declared.option.Option.the-variants.{Some}
 use Rattle.std.proofs.shelf.Signed.{ints}
 use Rattle.std.proofs.shelf.Ways.{decides-below-and, decides-eqb, tells}
+use Rattle.instant.specs.Reading.{Near}
 use Rattle.instant.specs.Calendar.{first-year, last-year, days-of-years, days-of-months, days-in-month, days-from-1900, days-from-1970, is-date, calendar-day, leap}
 
 abbrev pub by-rule : ℕ → ℕ
@@ -59,19 +59,19 @@ days-from-1900-le year month day h =
     let bounds : (year ≤ last-year) × (month ≤ 12) × (day ≤ 31) = grind (arith, tells) in
     omega (arith, days-of-years-le (year - first-year), days-of-months-le (leap year) (month - 1))
 
-pub days-near : (year month day : ℕ) → is-date year month day ≡ true → (negsuc 120000 ≤ℤ days-from-1970 year month day) × (days-from-1970 year month day ≤ℤ pos 120000)
+pub days-near : (year month day : ℕ) → is-date year month day ≡ true → Near 120000 (days-from-1970 year month day)
 days-near year month day h =
     let there = days-from-1900-le year month day h in
     let here = days-from-1900-le 1970 1 1 refl in
     (omega (arith, ints), omega (arith, ints))
 
 -- a day that the calendar has, for code that goes on to count in seconds
-pub record Near (year month day : ℕ) (days : ℤ) : Type 0 where
+pub record Day (year month day : ℕ) (days : ℤ) : Type 0 where
   pub date : is-date year month day ≡ true
   pub value : days ≡ days-from-1970 year month day
-  pub bounds : (negsuc 120000 ≤ℤ days) × (days ≤ℤ pos 120000)
+  pub near : Near 120000 days
 
-pub calendar-day-near : (year month day : ℕ) (days : ℤ) → Some days ≡ calendar-day year month day → Near year month day days
-calendar-day-near year month day days e =
+pub calendar-day-found : (year month day : ℕ) (days : ℤ) → Some days ≡ calendar-day year month day → Day year month day days
+calendar-day-found year month day days e =
     let found : (is-date year month day ≡ true) × (days ≡ days-from-1970 year month day) = grind arith in
-    record { date = found .0; value = found .1; bounds = rw (found .1) (days-near year month day (found .0)) }
+    record { date = found .0; value = found .1; near = rw (found .1) (days-near year month day (found .0)) }

@@ -26,7 +26,8 @@ level x y h = grind (arith, ints)
 
 pub instants-total : Total instant-before instant-level
 instants-total =
-    record
-    { one = λ a b. one-of (instant-before a b) (instant-before b a) (apart (a .tenths) (b .tenths))
-    ; carries = λ a b c. carries (a .tenths) (b .tenths) (c .tenths)
-    ; stands = λ a b c h. let e = level (a .tenths) (b .tenths) h in (ap (λ t. ltZ t (c .tenths)) e, ap (ltZ (c .tenths)) e) }
+    record {
+      one = λ a b. one-of (instant-before a b) (instant-before b a) (apart (a .tenths) (b .tenths));
+      carries = λ a b c. carries (a .tenths) (b .tenths) (c .tenths);
+      stands = λ a b c h. let e = level (a .tenths) (b .tenths) h in (ap (λ t. ltZ t (c .tenths)) e, ap (ltZ (c .tenths)) e);
+    }

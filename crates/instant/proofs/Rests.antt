@@ -47,13 +47,14 @@ fraction-found rest h =
 pub rest-sound : (seconds : ℤ) (rest : List ℕ) (instant : Instant) → rest-in seconds rest ≡ Some instant → Rest seconds rest instant
 rest-sound seconds rest instant e =
     elim
-    (cond-either (has-form (codes ".0") (take 2 rest)) _ _ instant e)
-    [ inl f ↦
-        let found = mapped-found (instant-at (pos 10 *ℤ seconds +ℤ pos (one-digit rest 1))) (zone-in (drop 2 rest)) instant (f .1) in
-        record { fraction = take 2 rest; zone = drop 2 rest; tenths = one-digit rest 1; ahead = found .0; parts = sym (take-append-drop 2 rest); of-fraction = fraction-found rest (f .0); of-zone = zone-sound (drop 2 rest) (found .0) (found .1); value = found .2 }
-    | inr f ↦
-        let found = mapped-found (instant-at (pos 10 *ℤ seconds)) (zone-in rest) instant (f .1) in
-        record { fraction = []; zone = rest; tenths = 0; ahead = found .0; parts = refl; of-fraction = absent refl refl; of-zone = zone-sound rest (found .0) (found .1); value = found .2 ∙ ap (λ z. instant-at z (found .0)) (omega (arith, ints)) } ]
+    (cond-either (has-form (codes ".0") (take 2 rest)) _ _ instant e) [
+      | inl f ↦
+          let found = mapped-found (instant-at (pos 10 *ℤ seconds +ℤ pos (one-digit rest 1))) (zone-in (drop 2 rest)) instant (f .1) in
+          record { fraction = take 2 rest; zone = drop 2 rest; tenths = one-digit rest 1; ahead = found .0; parts = sym (take-append-drop 2 rest); of-fraction = fraction-found rest (f .0); of-zone = zone-sound (drop 2 rest) (found .0) (found .1); value = found .2 }
+      | inr f ↦
+          let found = mapped-found (instant-at (pos 10 *ℤ seconds)) (zone-in rest) instant (f .1) in
+          record { fraction = []; zone = rest; tenths = 0; ahead = found .0; parts = refl; of-fraction = absent refl refl; of-zone = zone-sound rest (found .0) (found .1); value = found .2 ∙ ap (λ z. instant-at z (found .0)) (omega (arith, ints)) }
+    ]
 
 with-fraction : (seconds : ℤ) (tenths : ℕ) (zone : List ℕ) → tenths ≤ 9 → rest-in seconds (codes "." ++ digits1 tenths ++ zone) ≡ mapped (instant-at (pos 10 *ℤ seconds +ℤ pos tenths)) (zone-in zone)
 unfolding has-form

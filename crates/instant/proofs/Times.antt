@@ -56,13 +56,14 @@ time-read t limits = rw (written-form t) (ap Some (time-of-written t limits))
 
 pub local-exactly : (text : List ℕ) → Exactly (Local text) (then (time-in text) seconds-in)
 local-exactly text =
-    record
-    { sound = λ seconds e.
-        let found = then-found (time-in text) seconds-in seconds e in
-        let form = cond-found (has-form local-form text) (Some (time-at text)) (found .0) (found .1) in
-        let limits = cond-found (is-time (found .0)) (Some (seconds-from-1970 (found .0))) seconds (found .2) in
-        let same : time-at text ≡ found .0 = grind arith in
-        let value : seconds ≡ seconds-from-1970 (found .0) = grind arith in
-        record { time = found .0; form = time-written text (form .0) ∙ ap written same; limits = limits .0; value = value }
-    ; complete = λ seconds m.
-        ap (λ t. then (time-in t) seconds-in) (m .form) ∙ ap (λ o. then o seconds-in) (time-read (m .time) (m .limits)) ∙ rw (m .limits, m .value) }
+    record {
+      sound = λ seconds e.
+          let found = then-found (time-in text) seconds-in seconds e in
+          let form = cond-found (has-form local-form text) (Some (time-at text)) (found .0) (found .1) in
+          let limits = cond-found (is-time (found .0)) (Some (seconds-from-1970 (found .0))) seconds (found .2) in
+          let same : time-at text ≡ found .0 = grind arith in
+          let value : seconds ≡ seconds-from-1970 (found .0) = grind arith in
+          record { time = found .0; form = time-written text (form .0) ∙ ap written same; limits = limits .0; value = value };
+      complete = λ seconds m.
+          ap (λ t. then (time-in t) seconds-in) (m .form) ∙ ap (λ o. then o seconds-in) (time-read (m .time) (m .limits)) ∙ rw (m .limits, m .value);
+    }

@@ -35,10 +35,11 @@ offset-found sign text offset ne h e =
     let middle = mark-at form text h 3 (lit< tt) (λ e. omega arith) in
     let rest = offset-text (two-digits text 1) (two-digits text 4) in
     let found = cond-found (is-offset (two-digits text 1) (two-digits text 4)) (Some (60 * two-digits text 1 + two-digits text 4)) offset e in
-    let value : offset ≡ 60 * two-digits text 1 + two-digits text 4 = grind arith in
-    ( rest
-    , text-from-reads text (sign ∷ rest) (form-length form text h) (search needs)
-    , record { hours = two-digits text 1; minutes = two-digits text 4; form = refl; limits = found .0; value = value })
+    let value : offset ≡ 60 * two-digits text 1 + two-digits text 4 = grind arith in (
+      rest,
+      text-from-reads text (sign ∷ rest) (form-length form text h) (search needs),
+      record { hours = two-digits text 1; minutes = two-digits text 4; form = refl; limits = found .0; value = value },
+    )
 
 offset-read : (sign : ℕ) {rest : List ℕ} {offset : ℕ} → Offset rest offset → offset-in (sign ∷ rest) ≡ Some offset
 offset-read sign m =
@@ -48,23 +49,25 @@ offset-read sign m =
 pub zone-sound : (text : List ℕ) (ahead : ℤ) → zone-in text ≡ Some ahead → Zone text ahead
 zone-sound text ahead e =
     elim
-    (cond-either (has-form (codes "Z") text) _ _ ahead e)
-    [ inl z ↦
-        utc
-        (text-from-reads text (codes "Z") (form-length (codes "Z") text (z .0)) (mark-at (codes "Z") text (z .0) 0 (lit< tt) (λ e. omega arith), tt))
-        (grind arith)
-    | inr z ↦
-        elim
-        (cond-either (has-form (codes "+00:00") text) _ _ ahead (z .1))
-        [ inl p ↦
-            let found = mapped-found pos (offset-in text) ahead (p .1) in
-            let parts = offset-found 43 text (found .0) (λ e. omega arith) (p .0) (found .1) in
-            plus (parts .0) (found .0) (parts .1) (parts .2) (found .2)
-        | inr p ↦
-            let n = cond-found (has-form (codes "-00:00") text) _ ahead (p .1) in
-            let found = mapped-found (λ offset. negℤ (pos offset)) (offset-in text) ahead (n .1) in
-            let parts = offset-found 45 text (found .0) (λ e. omega arith) (n .0) (found .1) in
-            minus (parts .0) (found .0) (parts .1) (parts .2) (found .2) ] ]
+    (cond-either (has-form (codes "Z") text) _ _ ahead e) [
+      | inl z ↦
+          utc
+          (text-from-reads text (codes "Z") (form-length (codes "Z") text (z .0)) (mark-at (codes "Z") text (z .0) 0 (lit< tt) (λ e. omega arith), tt))
+          (grind arith)
+      | inr z ↦
+          elim
+          (cond-either (has-form (codes "+00:00") text) _ _ ahead (z .1)) [
+            | inl p ↦
+                let found = mapped-found pos (offset-in text) ahead (p .1) in
+                let parts = offset-found 43 text (found .0) (λ e. omega arith) (p .0) (found .1) in
+                plus (parts .0) (found .0) (parts .1) (parts .2) (found .2)
+            | inr p ↦
+                let n = cond-found (has-form (codes "-00:00") text) _ ahead (p .1) in
+                let found = mapped-found (λ offset. negℤ (pos offset)) (offset-in text) ahead (n .1) in
+                let parts = offset-found 45 text (found .0) (λ e. omega arith) (n .0) (found .1) in
+                minus (parts .0) (found .0) (parts .1) (parts .2) (found .2)
+          ]
+    ]
 
 offset-form : {rest : List ℕ} {offset : ℕ} → Offset rest offset → has-form (codes "00:00") rest ≡ true
 unfolding has-form

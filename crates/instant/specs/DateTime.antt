@@ -35,9 +35,13 @@ pub data Fraction (text : List ℕ) (tenths : ℕ) : Type 0 where
   absent : text ≡ [] → tenths ≡ 0 → Fraction text tenths
   present : text ≡ codes "." ++ digits1 tenths → tenths ≤ 9 → Fraction text tenths
 
+-- 14:00 in minutes
+abbrev pub largest-offset : ℕ
+largest-offset = 60 * 14
+
 -- minutes to 59, and at most 14:00 in all
 abbrev pub is-offset : ℕ → ℕ → Bool
-is-offset hours minutes = leb minutes 59 && leb (60 * hours + minutes) (60 * 14)
+is-offset hours minutes = leb minutes 59 && leb (60 * hours + minutes) largest-offset
 
 -- `05:30` tells its minutes
 pub record Offset (text : List ℕ) (offset : ℕ) : Type 0 where

@@ -7,6 +7,7 @@ use lib.Chars.{codes}
 use lib.Dec.{eqb}
 use lib.IntN.{ℤ, pos, negℤ, _+ℤ_, _*ℤ_}
 use lib.ListN.{take, drop}
+use lib.Signed.{_≤ℤ_}
 use Rattle.std.specs.Options.{mapped}
 use Rattle.std.specs.declared.option.Option.{Option}
 use Rattle.std.specs.declared.option.Option.the-variants.{Some, None}
@@ -15,15 +16,20 @@ use Rattle.instant.specs.declared.local_time.LocalTime.{LocalTime}
 use Rattle.instant.specs.DateTime.{is-time, is-offset, seconds-from-1970, instant-at}
 use Rattle.instant.specs.Form.{has-form, one-digit, two-digits}
 
+-- the bytes of `YYYY-MM-DDThh:mm:ss`
+abbrev pub local-width : ℕ
+local-width = 19
+
 abbrev pub time-at : List ℕ → LocalTime
 time-at text =
-    record
-    { year = 100 * two-digits text 0 + two-digits text 2
-    ; month = two-digits text 5
-    ; day = two-digits text 8
-    ; hour = two-digits text 11
-    ; minute = two-digits text 14
-    ; second = two-digits text 17 }
+    record {
+      year = 100 * two-digits text 0 + two-digits text 2;
+      month = two-digits text 5;
+      day = two-digits text 8;
+      hour = two-digits text 11;
+      minute = two-digits text 14;
+      second = two-digits text 17;
+    }
 
 abbrev pub time-in : List ℕ → Option LocalTime
 time-in text = cond (has-form (codes "0000-00-00T00:00:00") text) (Some (time-at text)) None
@@ -60,4 +66,8 @@ then None next = None
 then (Some u) next = next u
 
 abbrev pub instant-in : List ℕ → Option Instant
-instant-in text = then (then (time-in (take 19 text)) seconds-in) (λ seconds. rest-in seconds (drop 19 text))
+instant-in text = then (then (time-in (take local-width text)) seconds-in) (λ seconds. rest-in seconds (drop local-width text))
+
+-- no farther from 0 than n, so that sums with it fit
+abbrev pub Near : ℕ → ℤ → Type 0
+Near n z = (negℤ (pos n) ≤ℤ z) × (z ≤ℤ pos n)

@@ -7,7 +7,9 @@ ghost use Rattle.instant.specs.Calendar.{leap, days-in-month, days-of-months, 
 ghost use Rattle.instant.specs.Calendar.{first-year, last-year, days-from-1900};
 
 const FIRST_YEAR: u32 = 1900;
+
 const LAST_YEAR: u32 = 2199;
+
 const LEAP_YEARS_BEFORE_1900: u32 = 460;
 
 fn is_leap_year(year: u32) -> bool

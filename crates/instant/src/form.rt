@@ -10,7 +10,11 @@ ghost use Rattle.instant.specs.Form.{fits, has-form, one-digit, two-digits};
 fn fits(mark: u8, byte: u8) -> bool
     ensures { λ r. ⌜ r ≡ fits mark byte ⌝ }
 {
-    if mark == b'0' { byte.is_ascii_digit() } else { byte == mark }
+    if mark == b'0' {
+        byte.is_ascii_digit()
+    } else {
+        byte == mark
+    }
 }
 
 pub(crate) fn has_form(form: &[u8], text: &[u8]) -> bool

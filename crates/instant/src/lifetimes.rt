@@ -1,11 +1,10 @@
 // The instants from an Effective up to, without, an Expire.
 
 ghost use mathlib.Core.Path.{_≡_};
-ghost use lib.Signed.{_≤ℤ_, leZ};
+ghost use lib.Signed.{_≤ℤ_};
 ghost use Rattle.std.specs.Options.{mapped};
-ghost use Rattle.territory.specs.Singles.{told-if};
 ghost use Rattle.territory.specs.Stretches.{from-to, lies-within, meeting};
-ghost use Rattle.instant.specs.Instants.{instant-before, instant-level};
+ghost use Rattle.instant.specs.Instants.{instant-before, instant-level, lifetime-from};
 use crate::Instant;
 use crate::InstantBound;
 use territory::Bound;
@@ -23,7 +22,7 @@ pub struct Lifetime {
 impl Lifetime {
     // None where the Effective is after the Expire.
     pub fn new(effective: Instant, expire: Instant) -> Option<Lifetime>
-        ensures { λ r. ⌜ mapped (λ t. from-to (t .effective) (t .expire)) r ≡ told-if (leZ (effective .tenths) (expire .tenths)) (from-to effective expire) ⌝ }
+        ensures { λ r. ⌜ mapped (λ t. from-to (t .effective) (t .expire)) r ≡ lifetime-from effective expire ⌝ }
     {
         if effective.tenths <= expire.tenths {
             Some(Lifetime { effective, expire })
@@ -47,9 +46,10 @@ impl Lifetime {
     fn stretch(&self) -> Stretch<Instant>
         ensures { λ r. ⌜ r ≡ from-to (now (self .entry) .effective) (now (self .entry) .expire) ⌝ }
     {
+        let Lifetime { effective, expire } = *self;
         Stretch {
-            first: self.effective,
-            end: self.expire,
+            first: effective,
+            end: expire,
         }
     }
 }

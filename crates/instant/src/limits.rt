@@ -6,14 +6,23 @@ ghost use Rattle.instant.specs.Limits.{earliest, latest, is-within, instant-or
 use crate::date_time::Instant;
 
 impl Instant {
-    pub const EARLIEST: Instant = Instant { tenths: -1_000_000_000_000 };
-    pub const LATEST: Instant = Instant { tenths: 1_000_000_000_000 };
+    pub const EARLIEST: Instant = Instant {
+        tenths: -1_000_000_000_000,
+    };
+
+    pub const LATEST: Instant = Instant {
+        tenths: 1_000_000_000_000,
+    };
 
     fn read_or(missing: Instant, text: &[u8]) -> Option<Instant>
         ensures meaning { λ r. ⌜ r ≡ instant-or missing (now (text .entry)) ⌝ }
         ensures exactly { λ r. ⌜ Exactly (TellsOr missing (now (text .entry))) r ⌝ }
     {
-        if text.is_empty() { Some(missing) } else { Instant::read(text) }
+        if text.is_empty() {
+            Some(missing)
+        } else {
+            Instant::read(text)
+        }
     }
 
     // Reads a dateTime; an empty text is the earliest instant.

@@ -4,7 +4,8 @@ ghost use lib.ListN.{length};
 ghost use mathlib.Core.Path.{_≡_};
 ghost use Rattle.instant.specs.Reading.{time-at, time-in, seconds-in};
 use crate::calendar::days_from_1970;
-use crate::form::{has_form, two_digits};
+use crate::form::has_form;
+use crate::form::two_digits;
 
 #[derive(Clone, Copy)]
 pub(crate) struct LocalTime {

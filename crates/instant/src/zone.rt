@@ -3,7 +3,11 @@
 ghost use lib.ListN.{length};
 ghost use mathlib.Core.Path.{_≡_};
 ghost use Rattle.instant.specs.Reading.{offset-in, zone-in};
-use crate::form::{has_form, two_digits};
+use crate::form::has_form;
+use crate::form::two_digits;
+
+// 14:00 in minutes.
+const LARGEST_OFFSET: u32 = 60 * 14;
 
 // The minutes of `+hh:mm` or `-hh:mm`, without the sign.
 fn offset_minutes(text: &[u8]) -> Option<u32>
@@ -12,7 +16,11 @@ fn offset_minutes(text: &[u8]) -> Option<u32>
 {
     let (hours, minutes) = (two_digits(text, 1), two_digits(text, 4));
     let offset = 60 * hours + minutes;
-    if minutes <= 59 && offset <= 60 * 14 { Some(offset) } else { None }
+    if minutes <= 59 && offset <= LARGEST_OFFSET {
+        Some(offset)
+    } else {
+        None
+    }
 }
 
 // The minutes that a zone's clock is ahead of UTC, negative where it is behind.
