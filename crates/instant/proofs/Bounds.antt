@@ -2,17 +2,16 @@
 use mathlib.Core.Bool.{true}
 use mathlib.Core.List.{List, [], _∷_}
 use mathlib.Core.Logic.{inl, inr}
-use mathlib.Core.Path.{_≡_, refl, sym}
+use mathlib.Core.Path.{_≡_, refl}
 use Prim.Native.Nat.{ℕ, _≤_}
 use native.Mathlib.Omega.{arith}
-use lib.IntN.{ℤ, pos, _+ℤ_, _*ℤ_}
 use lib.Signed.{_<ℤ_, _≤ℤ_}
 use Rattle.std.proofs.shelf.Signed.{ints}
 use Rattle.std.specs.declared.option.Option.{Option}
 use Rattle.std.specs.declared.option.Option.the-variants.{Some, None}
 use Rattle.promise.specs.Exactly.{Exactly}
 use Rattle.instant.specs.declared.date_time.Instant.{Instant}
-use Rattle.instant.specs.DateTime.{instant-at, Fraction, Tells}
+use Rattle.instant.specs.DateTime.{Fraction, Tells}
 use Rattle.instant.specs.DateTime.Fraction.{absent, present}
 use Rattle.instant.specs.Form.{has-form}
 use Rattle.instant.specs.Limits.{earliest, latest, is-within, SomeWithin, instant-or, TellsOr}
@@ -44,7 +43,7 @@ pub read-within : (text : List ℕ) → SomeWithin (instant-in text)
 read-within text = some-within text (instant-in text) refl
 
 instant-or-exactly : (missing : Instant) (text : List ℕ) → Exactly (TellsOr missing text) (instant-or missing text)
-unfolding has-form
+unfolding has-form instant-in
 instant-or-exactly missing [] =
     record {
       sound = λ instant e. inl (refl, grind arith);

@@ -1,6 +1,6 @@
 -- A text is read exactly when it is of the form, and to the instant that it tells.
 use mathlib.Core.List.{List, _++_}
-use mathlib.Core.Path.{_≡_, refl, sym, ap, _∙_}
+use mathlib.Core.Path.{refl, sym, ap, _∙_}
 use Prim.Native.Nat.{ℕ}
 use lib.ListN.{take, drop}
 use Rattle.std.proofs.shelf.Lists.{take-append-drop, append-assoc}
@@ -12,6 +12,7 @@ use Rattle.instant.proofs.Rests.{rest-sound, rest-complete}
 use Rattle.instant.proofs.Times.{local-exactly}
 
 pub instant-exactly : (text : List ℕ) → Exactly (Tells text) (instant-in text)
+unfolding instant-in
 instant-exactly text =
     record {
       sound = λ instant e.

@@ -6,7 +6,6 @@ use lib.IntN.{ℤ}
 use lib.Signed.{ltZ}
 use Rattle.std.proofs.shelf.Signed.{ints}
 use Rattle.territory.specs.Order.{OneOf, only-first, only-second, only-third, Total}
-use Rattle.instant.specs.declared.date_time.Instant.{Instant}
 use Rattle.instant.specs.Instants.{instant-before, instant-level}
 
 one-of : (x z : Bool) → (x ≡ true → z ≡ true → ⊥) → OneOf x (not x && not z) z

@@ -11,9 +11,12 @@ use Rattle.instant.specs.declared.local_time.LocalTime.{LocalTime}
 use Rattle.instant.specs.Calendar.{days-from-1970, is-date}
 use Rattle.instant.specs.Form.{digits1, digits2, digits4}
 
--- hours 00 to 23, minutes and seconds 00 to 59, on a date of the calendar
+-- hours 00 to 23, minutes and seconds 00 to 59
+abbrev pub is-on-clock : LocalTime → Bool
+is-on-clock t = leb (t .hour) 23 && (leb (t .minute) 59 && leb (t .second) 59)
+
 abbrev pub is-time : LocalTime → Bool
-is-time t = is-date (t .year) (t .month) (t .day) && (leb (t .hour) 23 && (leb (t .minute) 59 && leb (t .second) 59))
+is-time t = is-date (t .year) (t .month) (t .day) && is-on-clock t
 
 abbrev pub seconds-from-1970 : LocalTime → ℤ
 seconds-from-1970 t =

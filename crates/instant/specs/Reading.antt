@@ -1,10 +1,8 @@
 -- What is read of a dateTime text, by the places of its bytes: a function that computes, for every text. Assumes nothing.
-use mathlib.Core.Bool.{Bool, true, _&&_, cond}
-use mathlib.Core.List.{List, [], _∷_, _++_}
-use mathlib.Core.Path.{_≡_}
+use mathlib.Core.Bool.{cond}
+use mathlib.Core.List.{List}
 use Prim.Native.Nat.{ℕ, _+_, _*_}
 use lib.Chars.{codes}
-use lib.Dec.{eqb}
 use lib.IntN.{ℤ, pos, negℤ, _+ℤ_, _*ℤ_}
 use lib.ListN.{take, drop}
 use lib.Signed.{_≤ℤ_}
@@ -65,7 +63,7 @@ abbrev pub then : {U V : Type 0} → Option U → (U → Option V) → Option V
 then None next = None
 then (Some u) next = next u
 
-abbrev pub instant-in : List ℕ → Option Instant
+unfoldable pub instant-in : List ℕ → Option Instant
 instant-in text = then (then (time-in (take local-width text)) seconds-in) (λ seconds. rest-in seconds (drop local-width text))
 
 -- no farther from 0 than n, so that sums with it fit

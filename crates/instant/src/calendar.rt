@@ -1,6 +1,6 @@
 // The Gregorian calendar of the years 1900 to 2199.
 
-ghost use Prim.Native.Nat.{_-_, _≤_, _<_};
+ghost use Prim.Native.Nat.{_-_, _≤_};
 ghost use mathlib.Core.Bool.{true};
 ghost use mathlib.Core.Path.{_≡_};
 ghost use Rattle.instant.specs.Calendar.{leap, days-in-month, days-of-months, days-of-years, is-date, calendar-day};
@@ -10,12 +10,13 @@ const FIRST_YEAR: u32 = 1900;
 
 const LAST_YEAR: u32 = 2199;
 
+// From the year 1 on.
 const LEAP_YEARS_BEFORE_1900: u32 = 460;
 
 fn is_leap_year(year: u32) -> bool
     ensures { λ r. ⌜ r ≡ leap year ⌝ }
 {
-    year % 4 == 0 && year % 100 != 0 || year % 400 == 0
+    (year % 4 == 0 && year % 100 != 0) || year % 400 == 0
 }
 
 fn days_in_month(year: u32, month: u32) -> u32

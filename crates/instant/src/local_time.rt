@@ -1,8 +1,8 @@
 // A date and a time of day, by the clock of some place.
 
-ghost use lib.ListN.{length};
 ghost use mathlib.Core.Path.{_≡_};
-ghost use Rattle.instant.specs.Reading.{time-at, time-in, seconds-in};
+ghost use Rattle.instant.specs.Reading.{time-in, seconds-in};
+ghost use Rattle.instant.specs.DateTime.{is-on-clock};
 use crate::calendar::days_from_1970;
 use crate::form::has_form;
 use crate::form::two_digits;
@@ -35,15 +35,20 @@ impl LocalTime {
         })
     }
 
+    fn is_on_clock(self) -> bool
+        ensures { λ r. ⌜ r ≡ is-on-clock self ⌝ }
+    {
+        self.hour <= 23 && self.minute <= 59 && self.second <= 59
+    }
+
     // The seconds from 1970-01-01T00:00:00 by the same clock; none if there is no such date or time of day.
     pub(crate) fn seconds_from_1970(self) -> Option<i64>
         ensures { λ r. ⌜ r ≡ seconds-in self ⌝ }
     {
         let days = days_from_1970(self.year, self.month, self.day)?;
-        if self.hour <= 23 && self.minute <= 59 && self.second <= 59 {
-            Some(86_400 * days + i64::from(3600 * self.hour + 60 * self.minute + self.second))
-        } else {
-            None
+        if !self.is_on_clock() {
+            return None;
         }
+        Some(86_400 * days + i64::from(3600 * self.hour + 60 * self.minute + self.second))
     }
 }
