@@ -4,6 +4,8 @@ use mathlib.Core.List.{List}
 use Prim.Native.Nat.{ℕ, zero, suc, _+_, _-_, _^_, min}
 use lib.Dec.{ltb, leb}
 use lib.ListN.{length, getD, take, drop}
+use Rattle.std.specs.declared.option.Option.{Option}
+use Rattle.std.specs.declared.option.Option.the-variants.{Some, None}
 use Rattle.std.specs.declared.result.Result.{Result}
 use Rattle.std.specs.declared.result.Result.the-variants.{Ok, Err}
 use Rattle.delivery.specs.Opened.{Part}
@@ -32,5 +34,9 @@ field-from body at =
     cond (field-fits (body .bytes) at) (Ok (record { bytes = field-bytes (body .bytes) at; place = place-in body at })) (Err (place-in body at))
 
 -- where the reader stands after it was asked for the field there
-abbrev pub past-field : Part → ℕ → ℕ
-past-field body at = cond (field-fits (body .bytes) at) (field-end (body .bytes) at) at
+abbrev pub past-field : List ℕ → ℕ → ℕ
+past-field body at = cond (field-fits body at) (field-end body at) at
+
+-- the place of the first byte that is left, if one is
+abbrev pub left-over : Part → ℕ → Option ℕ
+left-over body at = cond (ltb at (length (body .bytes))) (Some (place-in body at)) None

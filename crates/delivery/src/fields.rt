@@ -2,7 +2,7 @@
 ghost use mathlib.Core.Path.{_≡_};
 ghost use Rattle.std.specs.Results.{mapped as mapped-result};
 ghost use Rattle.delivery.specs.Opened.{body-part};
-ghost use Rattle.delivery.specs.Fields.{field-part, field-from, past-field};
+ghost use Rattle.delivery.specs.Fields.{field-part, field-from, left-over, past-field};
 use crate::Body;
 
 /// A field's bytes, as a part of the delivery, and the place of its length byte.
@@ -31,7 +31,7 @@ impl<'a> FieldReader<'a> {
     /// The next field; or, where it passes the body's end, the place of its length byte, and nothing is passed over.
     pub fn field(&mut self) -> Result<Field<'a>, usize>
         ensures value { λ r. ⌜ mapped-result field-part (λ p. p) r ≡ field-from (body-part (now (self .entry) .body)) (now (self .entry) .at) ⌝ }
-        ensures after { λ r. ⌜ now (self .exit) .at ≡ past-field (body-part (now (self .entry) .body)) (now (self .entry) .at) ⌝ }
+        ensures after { λ r. ⌜ now (self .exit) .at ≡ past-field (now (now (self .entry) .body .bytes)) (now (self .entry) .at) ⌝ }
         ensures body { λ r. ⌜ body-part (now (self .exit) .body) ≡ body-part (now (self .entry) .body) ⌝ }
     {
         let bytes = self.body.bytes;
@@ -49,5 +49,15 @@ impl<'a> FieldReader<'a> {
             bytes: &bytes[start..start + length],
             place,
         })
+    }
+    /// The place of the first byte that no field has taken yet, if one is left.
+    pub fn left_over(&self) -> Option<usize>
+        ensures { λ r. ⌜ r ≡ left-over (body-part (now (self .entry) .body)) (now (self .entry) .at) ⌝ }
+    {
+        if self.at < self.body.bytes.len() {
+            Some(self.body.place.saturating_add(self.at))
+        } else {
+            None
+        }
     }
 }
