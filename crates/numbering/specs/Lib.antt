@@ -1,0 +1,4 @@
+pub mod Least
+pub mod Parities
+pub mod Places
+pub mod Ranges
