@@ -1,2 +1,4 @@
+pub mod BitLaws
 pub mod Leasts
+pub mod MarkLaws
 pub mod RangeLaws

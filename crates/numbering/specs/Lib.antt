@@ -1,4 +1,5 @@
 pub mod Least
+pub mod Marks
 pub mod Parities
 pub mod Places
 pub mod Ranges

@@ -1,8 +1,11 @@
 // Ranges and marks: two kinds of numberings whose places are address numbers.
 // Where two of a kind meet, they tell the least number that both hold.
+mod mark_sets;
 mod parities;
 mod ranges;
 
+pub use mark_sets::Marks;
+pub use mark_sets::MarksTerritory;
 pub use parities::Parity;
 pub use ranges::Range;
 pub use ranges::RangeTerritory;
