@@ -1,4 +1,7 @@
 pub mod BitLaws
 pub mod Leasts
 pub mod MarkLaws
+pub mod PlaceLaws
+pub mod ParityLaws
 pub mod RangeLaws
+pub mod ThreeReads

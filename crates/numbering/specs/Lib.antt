@@ -3,3 +3,4 @@ pub mod Marks
 pub mod Parities
 pub mod Places
 pub mod Ranges
+pub mod ThreeTexts

@@ -8,4 +8,5 @@ pub use mark_sets::Marks;
 pub use mark_sets::MarksTerritory;
 pub use parities::Parity;
 pub use ranges::Range;
+pub use ranges::RangeNumbering;
 pub use ranges::RangeTerritory;

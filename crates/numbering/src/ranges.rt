@@ -1,10 +1,15 @@
 // The numbers of one parity between two ends.
 ghost use mathlib.Core.Path.{_≡_};
 ghost use Prim.Native.Nat.{ℕ};
+ghost use Rattle.std.specs.Results.{errPart, okPart};
+ghost use Rattle.promise.specs.Exactly.{Exactly};
+ghost use Rattle.text.specs.AddressNumber.{read-number};
 ghost use Rattle.numbering.specs.Least.{Least, both-hold, least-shared};
-ghost use Rattle.numbering.specs.Places.{same-number};
-ghost use Rattle.numbering.specs.Ranges.{high, low, range-holds, range-past};
+ghost use Rattle.numbering.specs.Places.{same-number, written-place};
+ghost use Rattle.numbering.specs.Ranges.{RangeFault, RangeTexts, high, low, range-holds, range-past, range-reading};
 use crate::Parity;
+use territory::Numbering;
+use territory::NumberingText;
 use territory::Territory;
 use text::AddressNumber;
 
@@ -81,4 +86,51 @@ pub impl Territory for Range as RangeTerritory {
     {
         self.shared(other).least()
     }
+}
+
+pub impl Numbering for Range as RangeNumbering {
+    ghost reading = { range-reading };
+
+    ghost place = { read-number };
+
+    ghost written = { written-place };
+
+    // The ends, and a parity that agrees with them.
+    fn read(first: &[u8], second: &[u8], third: &[u8]) -> Result<Range, NumberingText>
+        ensures value { λ r. ⌜ r ≡ range-reading (now (first .entry)) (now (second .entry)) (now (third .entry)) ⌝ }
+        ensures exactly { λ r. ⌜ Exactly (RangeTexts (now (first .entry)) (now (second .entry)) (now (third .entry))) (okPart r) ⌝ }
+        ensures at_fault { λ r. ⌜ RangeFault (now (first .entry)) (now (second .entry)) (now (third .entry)) (errPart r) ⌝ }
+    {
+        read_range(first, second, third)
+    }
+
+    fn read_place(text: &[u8]) -> Option<AddressNumber> {
+        AddressNumber::read(text)
+    }
+
+    fn write_place(point: AddressNumber, out: &mut [u8; 14]) -> usize {
+        point.write(out)
+    }
+}
+
+fn read_range(first: &[u8], second: &[u8], third: &[u8]) -> Result<Range, NumberingText>
+    ensures { λ r. ⌜ r ≡ range-reading (now (first .entry)) (now (second .entry)) (now (third .entry)) ⌝ }
+{
+    let Some(from) = AddressNumber::read(first) else {
+        return Err(NumberingText::First);
+    };
+    let Some(to) = AddressNumber::read(second) else {
+        return Err(NumberingText::Second);
+    };
+    let Some(parity) = Parity::read(third) else {
+        return Err(NumberingText::Third);
+    };
+    if !parity.agrees(from.value, to.value) {
+        return Err(NumberingText::Third);
+    }
+    Ok(Range {
+        from: from.value,
+        to: to.value,
+        parity,
+    })
 }
