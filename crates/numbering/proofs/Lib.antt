@@ -1,4 +1,5 @@
 pub mod BitLaws
+pub mod HexLaws
 pub mod Leasts
 pub mod MarkLaws
 pub mod PlaceLaws

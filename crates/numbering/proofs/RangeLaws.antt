@@ -17,7 +17,7 @@ use Rattle.numbering.specs.Places.{address}
 use Rattle.numbering.specs.Ranges.{RangeFault, RangeTexts, if-agreed, range-between, range-holds, range-past, range-reading}
 use Rattle.numbering.specs.declared.ranges.Range.{Range}
 use Rattle.numbering.proofs.ParityLaws.{agrees-decides, parity-exactly}
-use Rattle.numbering.proofs.ThreeReads.{three-at-fault, three-exactly}
+use Rattle.numbering.proofs.ThreeReads.{three-told}
 
 pub bounded : (r : Range) (n : ℕ) → range-holds r n ≡ true → n < range-past r
 bounded r n h = grind (arith, tells)
@@ -45,10 +45,5 @@ module _ (first second third : List ℕ) where
       let agreed = agrees-decides parity (range .from) (range .to) .1 (texts .agreed) in
       (address (range .from), address (range .to), texts .from-text, texts .to-text, rw (read, agreed) refl)
 
-  pub range-exactly : Exactly (RangeTexts first second third) (okPart (range-reading first second third))
-  range-exactly =
-      three-exactly (read-number first) (read-number second) (range-between third) (number-exactly first) (number-exactly second) joins splits
-
-  pub range-at-fault : RangeFault first second third (errPart (range-reading first second third))
-  range-at-fault =
-      three-at-fault (read-number first) (read-number second) (range-between third) (number-exactly first) (number-exactly second) joins splits
+  pub range-told : Exactly (RangeTexts first second third) (okPart (range-reading first second third)) × RangeFault first second third (errPart (range-reading first second third))
+  range-told = three-told (read-number first) (read-number second) (range-between third) (number-exactly first) (number-exactly second) joins splits

@@ -40,7 +40,7 @@ module _ {A B S : Type 0} {FirstSays : A → Type 0} {SecondSays : B → Type 0}
     (first-read : Exactly FirstSays first) (second-read : Exactly SecondSays second)
     (joins : (a : A) (b : B) (s : S) → FirstSays a → SecondSays b → made a b ≡ Some s → AllSay s)
     (splits : (s : S) → AllSay s → (a : A) × (b : B) × FirstSays a × SecondSays b × (made a b ≡ Some s)) where
-  pub three-exactly : Exactly AllSay (okPart (read-three first second made))
+  three-exactly : Exactly AllSay (okPart (read-three first second made))
   three-exactly = record {
     sound = λ s e. let p = apart first second made s e in
         joins (p .0) (p .1) s (first-read .sound (p .0) (p .2)) (second-read .sound (p .1) (p .3)) (p .4);
@@ -90,5 +90,5 @@ module _ {A B S : Type 0} {FirstSays : A → Type 0} {SecondSays : B → Type 0}
       ])
   by-first (Some a) e = by-second a e second refl
 
-  pub three-at-fault : FirstAtFault FirstSays SecondSays AllSay (errPart (read-three first second made))
-  three-at-fault = by-first first refl
+  pub three-told : Exactly AllSay (okPart (read-three first second made)) × FirstAtFault FirstSays SecondSays AllSay (errPart (read-three first second made))
+  three-told = (three-exactly, by-first first refl)

@@ -1,3 +1,4 @@
+pub mod Hexadecimal
 pub mod Least
 pub mod Marks
 pub mod Parities

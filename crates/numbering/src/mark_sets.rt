@@ -1,13 +1,22 @@
 // Numbers in a row, each held or not.
 ghost use mathlib.Core.Path.{_≡_};
 ghost use Prim.Native.Nat.{ℕ, _/_, _^_};
+ghost use Rattle.std.specs.Results.{errPart, okPart};
+ghost use Rattle.promise.specs.Exactly.{Exactly};
+ghost use Rattle.text.specs.AddressNumber.{read-number};
 ghost use Rattle.numbering.specs.Least.{Least, both-hold, least-shared};
-ghost use Rattle.numbering.specs.Marks.{marks-hold, marks-past};
-ghost use Rattle.numbering.specs.Places.{same-number};
+ghost use Rattle.numbering.specs.Marks.{MarksFault, MarksTexts, first-number, marks-hold, marks-past, marks-reading};
+ghost use Rattle.numbering.specs.Places.{same-number, written-place};
+use crate::hexadecimal::read_hexadecimal;
+use territory::Numbering;
+use territory::NumberingText;
 use territory::Territory;
 use text::AddressNumber;
 
 const GREATEST_NUMBER: u32 = 999_999;
+
+// From it on the last number is the greatest.
+const GREATEST_FIRST: u32 = 999_936;
 
 // Number `first + i` is held where bit `i` is set, up to the greatest number. Plain values: any can stand in a table.
 #[derive(Clone, Copy)]
@@ -65,6 +74,60 @@ pub impl Territory for Marks as MarksTerritory {
         ensures least { λ r. ⌜ Least marks-hold (now (self .entry)) (now (other .entry)) r ⌝ }
     {
         self.shared(other).least()
+    }
+}
+
+pub impl Numbering for Marks as MarksNumbering {
+    ghost reading = { marks-reading };
+
+    ghost place = { read-number };
+
+    ghost written = { written-place };
+
+    // The first number, the bits in hexadecimal, and an empty text.
+    fn read(first: &[u8], second: &[u8], third: &[u8]) -> Result<Marks, NumberingText>
+        ensures value { λ r. ⌜ r ≡ marks-reading (now (first .entry)) (now (second .entry)) (now (third .entry)) ⌝ }
+        ensures exactly { λ r. ⌜ Exactly (MarksTexts (now (first .entry)) (now (second .entry)) (now (third .entry))) (okPart r) ⌝ }
+        ensures at_fault { λ r. ⌜ MarksFault (now (first .entry)) (now (second .entry)) (now (third .entry)) (errPart r) ⌝ }
+    {
+        read_marks(first, second, third)
+    }
+
+    fn read_place(text: &[u8]) -> Option<AddressNumber> {
+        AddressNumber::read(text)
+    }
+
+    fn write_place(point: AddressNumber, out: &mut [u8; 14]) -> usize {
+        point.write(out)
+    }
+}
+
+fn read_marks(first: &[u8], second: &[u8], third: &[u8]) -> Result<Marks, NumberingText>
+    ensures { λ r. ⌜ r ≡ marks-reading (now (first .entry)) (now (second .entry)) (now (third .entry)) ⌝ }
+{
+    let Some(first) = read_first(first) else {
+        return Err(NumberingText::First);
+    };
+    let Some(bits) = read_hexadecimal(second) else {
+        return Err(NumberingText::Second);
+    };
+    if !third.is_empty() {
+        return Err(NumberingText::Third);
+    }
+    Ok(Marks {
+        first: first.value,
+        bits,
+    })
+}
+
+fn read_first(text: &[u8]) -> Option<AddressNumber>
+    ensures { λ r. ⌜ r ≡ first-number (now (text .entry)) ⌝ }
+{
+    let first = AddressNumber::read(text)?;
+    if first.value <= GREATEST_FIRST {
+        Some(first)
+    } else {
+        None
     }
 }
 

@@ -1,7 +1,8 @@
-use Rattle.numbering.proofs.RangeLaws.{range-at-fault, range-exactly}
+use Rattle.numbering.proofs.RangeLaws.{range-told}
 use Rattle.numbering.proofs.ranges.RangeNumbering.read.Needs as need
 
 pub returns : need.returns
 returns c =
     let told = c .read-range .ensures in
-    record { value = told; exactly = rw told (range-exactly _ _ _); at-fault = rw told (range-at-fault _ _ _) }
+    let law = range-told (c .args .first .now) (c .args .second .now) (c .args .third .now) in
+    record { value = told; exactly = rw told (law .0); at-fault = rw told (law .1) }
