@@ -85,12 +85,12 @@ pub impl Numbering for Marks as MarksNumbering {
     ghost written = { written-place };
 
     // The first number, the bits in hexadecimal, and an empty text.
-    fn read(first: &[u8], second: &[u8], third: &[u8]) -> Result<Marks, NumberingText>
-        ensures value { λ r. ⌜ r ≡ marks-reading (now (first .entry)) (now (second .entry)) (now (third .entry)) ⌝ }
-        ensures exactly { λ r. ⌜ Exactly (MarksTexts (now (first .entry)) (now (second .entry)) (now (third .entry))) (okPart r) ⌝ }
-        ensures at_fault { λ r. ⌜ MarksFault (now (first .entry)) (now (second .entry)) (now (third .entry)) (errPart r) ⌝ }
+    fn read(first: &[u8], bits: &[u8], rest: &[u8]) -> Result<Marks, NumberingText>
+        ensures value { λ r. ⌜ r ≡ marks-reading (now (first .entry)) (now (bits .entry)) (now (rest .entry)) ⌝ }
+        ensures exactly { λ r. ⌜ Exactly (MarksTexts (now (first .entry)) (now (bits .entry)) (now (rest .entry))) (okPart r) ⌝ }
+        ensures at_fault { λ r. ⌜ MarksFault (now (first .entry)) (now (bits .entry)) (now (rest .entry)) (errPart r) ⌝ }
     {
-        read_marks(first, second, third)
+        read_marks(first, bits, rest)
     }
 
     fn read_place(text: &[u8]) -> Option<AddressNumber> {
@@ -102,16 +102,16 @@ pub impl Numbering for Marks as MarksNumbering {
     }
 }
 
-fn read_marks(first: &[u8], second: &[u8], third: &[u8]) -> Result<Marks, NumberingText>
-    ensures { λ r. ⌜ r ≡ marks-reading (now (first .entry)) (now (second .entry)) (now (third .entry)) ⌝ }
+fn read_marks(first: &[u8], bits: &[u8], rest: &[u8]) -> Result<Marks, NumberingText>
+    ensures { λ r. ⌜ r ≡ marks-reading (now (first .entry)) (now (bits .entry)) (now (rest .entry)) ⌝ }
 {
     let Some(first) = read_first(first) else {
         return Err(NumberingText::First);
     };
-    let Some(bits) = read_hexadecimal(second) else {
+    let Some(bits) = read_hexadecimal(bits) else {
         return Err(NumberingText::Second);
     };
-    if !third.is_empty() {
+    if !rest.is_empty() {
         return Err(NumberingText::Third);
     }
     Ok(Marks {

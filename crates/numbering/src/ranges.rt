@@ -96,12 +96,12 @@ pub impl Numbering for Range as RangeNumbering {
     ghost written = { written-place };
 
     // The ends, and a parity that agrees with them.
-    fn read(first: &[u8], second: &[u8], third: &[u8]) -> Result<Range, NumberingText>
-        ensures value { λ r. ⌜ r ≡ range-reading (now (first .entry)) (now (second .entry)) (now (third .entry)) ⌝ }
-        ensures exactly { λ r. ⌜ Exactly (RangeTexts (now (first .entry)) (now (second .entry)) (now (third .entry))) (okPart r) ⌝ }
-        ensures at_fault { λ r. ⌜ RangeFault (now (first .entry)) (now (second .entry)) (now (third .entry)) (errPart r) ⌝ }
+    fn read(from: &[u8], to: &[u8], parity: &[u8]) -> Result<Range, NumberingText>
+        ensures value { λ r. ⌜ r ≡ range-reading (now (from .entry)) (now (to .entry)) (now (parity .entry)) ⌝ }
+        ensures exactly { λ r. ⌜ Exactly (RangeTexts (now (from .entry)) (now (to .entry)) (now (parity .entry))) (okPart r) ⌝ }
+        ensures at_fault { λ r. ⌜ RangeFault (now (from .entry)) (now (to .entry)) (now (parity .entry)) (errPart r) ⌝ }
     {
-        read_range(first, second, third)
+        read_range(from, to, parity)
     }
 
     fn read_place(text: &[u8]) -> Option<AddressNumber> {
@@ -113,16 +113,16 @@ pub impl Numbering for Range as RangeNumbering {
     }
 }
 
-fn read_range(first: &[u8], second: &[u8], third: &[u8]) -> Result<Range, NumberingText>
-    ensures { λ r. ⌜ r ≡ range-reading (now (first .entry)) (now (second .entry)) (now (third .entry)) ⌝ }
+fn read_range(from: &[u8], to: &[u8], parity: &[u8]) -> Result<Range, NumberingText>
+    ensures { λ r. ⌜ r ≡ range-reading (now (from .entry)) (now (to .entry)) (now (parity .entry)) ⌝ }
 {
-    let Some(from) = AddressNumber::read(first) else {
+    let Some(from) = AddressNumber::read(from) else {
         return Err(NumberingText::First);
     };
-    let Some(to) = AddressNumber::read(second) else {
+    let Some(to) = AddressNumber::read(to) else {
         return Err(NumberingText::Second);
     };
-    let Some(parity) = Parity::read(third) else {
+    let Some(parity) = Parity::read(parity) else {
         return Err(NumberingText::Third);
     };
     if !parity.agrees(from.value, to.value) {
