@@ -1,4 +1,5 @@
 pub mod Contents
+pub mod Fields
 pub mod Kinds
 pub mod Opened
 pub mod Opening

@@ -15,6 +15,7 @@ use crate::contents::body_place;
 use crate::contents::has_line;
 use crate::contents::table_end;
 
+/// A line of the table: what the body describes, and where it lies.
 #[derive(Clone, Copy)]
 pub struct Entry {
     pub kind: Kind,
@@ -22,13 +23,14 @@ pub struct Entry {
     pub length: u16,
 }
 
-// A part of the delivery, with its place.
+/// A part of the delivery, with its place.
 #[derive(Clone, Copy)]
 pub struct Body<'a> {
     pub bytes: &'a [u8],
     pub place: usize,
 }
 
+/// An opened delivery.
 #[derive(Clone, Copy)]
 pub struct Delivery<'a> {
     bytes: &'a [u8],
@@ -36,6 +38,7 @@ pub struct Delivery<'a> {
 }
 
 impl<'a> Delivery<'a> {
+    /// Checks the table of contents, and refuses with the first reason that applies.
     pub fn open(bytes: &'a [u8]) -> Result<Delivery<'a>, DeliveryRefusal>
         ensures value { λ r. ⌜ mapped-result contents (λ e. e) r ≡ opening (now (bytes .entry)) ⌝ }
         ensures rightly { λ r. ⌜ RefusedRightly (now (bytes .entry)) (errPart r) ⌝ }
@@ -45,12 +48,14 @@ impl<'a> Delivery<'a> {
         opened(bytes)
     }
 
+    /// How many entries the table lists.
     pub fn entry_count(&self) -> usize
         ensures { λ r. ⌜ r ≡ now (self .entry) .count ⌝ }
     {
         self.count
     }
 
+    /// An entry by its number, from 0.
     pub fn entry(&self, number: usize) -> Option<Entry>
         ensures { λ r. ⌜ r ≡ entry-at (contents (now (self .entry))) number ⌝ }
     {
@@ -68,6 +73,7 @@ impl<'a> Delivery<'a> {
         })
     }
 
+    /// The body of an entry, as a part of the delivery.
     pub fn body(&self, number: usize) -> Option<Body<'a>>
         ensures { λ r. ⌜ mapped body-part r ≡ body-at (contents (now (self .entry))) number ⌝ }
     {

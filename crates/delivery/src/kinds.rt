@@ -3,6 +3,7 @@ ghost use mathlib.Core.Path.{_≡_};
 ghost use Rattle.promise.specs.Exactly.{Exactly};
 ghost use Rattle.delivery.specs.Kinds.{kind-number, kind-numbered};
 
+/// What a body describes.
 #[derive(Clone, Copy)]
 pub enum Kind {
     Road = 1,
@@ -13,6 +14,7 @@ pub enum Kind {
 }
 
 impl Kind {
+    /// The number that stands for the kind in a table of contents.
     pub fn number(self) -> u8
         ensures { λ r. ⌜ r ≡ kind-number self ⌝ }
     {

@@ -3,6 +3,7 @@
 mod checks;
 mod contents;
 mod deliveries;
+mod fields;
 mod kinds;
 mod refusals;
 mod taken;
@@ -10,5 +11,7 @@ mod taken;
 pub use deliveries::Body;
 pub use deliveries::Delivery;
 pub use deliveries::Entry;
+pub use fields::Field;
+pub use fields::FieldReader;
 pub use kinds::Kind;
 pub use refusals::DeliveryRefusal;

@@ -82,7 +82,7 @@ fn list_entries(heap: Global, delivery: &Delivery) -> Result<String, AllocError>
     Ok(text)
 }
 
-// What a person is told of these bytes.
+/// What a person is told of these bytes.
 pub fn inspect(heap: Global, bytes: &[u8]) -> Result<String, AllocError>
     ensures { λ r. ⌜ made r (λ text. string-bytes text ≡ inspected (now (bytes .entry))) ⌝ }
 {

@@ -2,6 +2,7 @@
 ghost use Rattle.territory.specs.BytePlaces.{place-before, place-level};
 use crate::Bound;
 
+/// A place counted in bytes from the start of a delivery.
 #[derive(Clone, Copy)]
 pub struct BytePlace {
     pub at: usize,

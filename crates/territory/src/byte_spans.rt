@@ -13,6 +13,7 @@ use crate::Stretch;
 use crate::StretchTerritory;
 use crate::Territory;
 
+/// A stretch of bytes whose first place is never after its end.
 #[derive(Clone, Copy)]
 pub struct ByteSpan {
     first: BytePlace,
@@ -21,7 +22,7 @@ pub struct ByteSpan {
 }
 
 impl ByteSpan {
-    // None where the first place is after the end.
+    /// None where the first place is after the end.
     pub fn new(first: BytePlace, end: BytePlace) -> Option<ByteSpan>
         ensures { λ r. ⌜ mapped (λ s. from-to (s .first) (s .end)) r ≡ told-if (leb (first .at) (end .at)) (from-to first end) ⌝ }
     {
@@ -32,7 +33,7 @@ impl ByteSpan {
         }
     }
 
-    // So many bytes from a place on.
+    /// So many bytes from a place on.
     pub fn of_length(place: u16, length: u16) -> ByteSpan
         ensures { λ r. ⌜ from-to (r .first) (r .end) ≡ from-to (byte-place place) (byte-place (place + length)) ⌝ }
     {

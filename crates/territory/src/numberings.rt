@@ -9,6 +9,7 @@ ghost use Rattle.territory.specs.declared.numberings.NumberingText.{NumberingT
 ghost use Rattle.territory.specs.Places.{WritesPlaces};
 use crate::Territory;
 
+/// Which of the three texts of a numbering.
 #[derive(Clone, Copy)]
 pub enum NumberingText {
     First,
@@ -18,6 +19,7 @@ pub enum NumberingText {
 
 pub const PLACE_WIDTH: usize = 14;
 
+/// A way of numbering houses: a territory of places that is read from three texts.
 pub trait Numbering: Territory + Copy {
     ghost reading: { List ℕ → List ℕ → List ℕ → Outcome Self Text };
 
@@ -27,14 +29,15 @@ pub trait Numbering: Territory + Copy {
 
     law writes: { WritesPlaces (Self·Territory .same) place written };
 
-    // The numbering that the three texts say, or the first of them that is at fault.
+    /// The numbering that the three texts say, or the first of them that is at fault.
     fn read(first: &[u8], second: &[u8], third: &[u8]) -> Result<Self, NumberingText>
         ensures { λ r. ⌜ r ≡ reading (now (first .entry)) (now (second .entry)) (now (third .entry)) ⌝ };
 
+    /// The place that the text says, if it says one.
     fn read_place(text: &[u8]) -> Option<Self::Point>
         ensures { λ r. ⌜ r ≡ place (now (text .entry)) ⌝ };
 
-    // Writes a place at the front of `out`, and tells how many bytes it took.
+    /// Writes a place at the front of `out`, and tells how many bytes it took.
     fn write_place(point: Self::Point, out: &mut [u8; PLACE_WIDTH]) -> usize
         ensures count { λ r. ⌜ r ≡ length (written point) ⌝ }
         ensures bytes { λ r. ⌜ now (out .exit) ≡ written point ++ drop r (now (out .entry)) ⌝ };

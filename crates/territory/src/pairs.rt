@@ -4,6 +4,7 @@ ghost use mathlib.Core.Bool.{_&&_};
 ghost use Rattle.territory.specs.Pairs.{both-told};
 use crate::Territory;
 
+/// Holds two points together where each part holds its own.
 #[derive(Clone, Copy)]
 pub struct Pair<T, U> {
     pub first: T,

@@ -5,6 +5,7 @@ ghost use Rattle.territory.specs.Meaning.{Equivalence};
 ghost use Rattle.territory.specs.Singles.{told-if};
 use crate::Territory;
 
+/// A sameness of values that is lawful and need not be equality.
 pub trait Agree: Copy {
     ghost agree: { Self → Self → Bool };
 
@@ -14,6 +15,7 @@ pub trait Agree: Copy {
         ensures { λ r. ⌜ r ≡ agree self other ⌝ };
 }
 
+/// Holds the values that agree with one.
 #[derive(Clone, Copy)]
 pub struct Single<V> {
     pub value: V,

@@ -4,6 +4,7 @@ ghost use Rattle.territory.specs.Stretches.{lies-within, meeting, later, earli
 use crate::Bound;
 use crate::Territory;
 
+/// From the first bound up to, but without, the end bound. Equal bounds hold nothing.
 #[derive(Clone, Copy)]
 pub struct Stretch<B> {
     pub first: B,

@@ -6,6 +6,7 @@ ghost use Rattle.std.specs.Options.{isSome};
 ghost use Rattle.std.specs.Orderings.{Decides};
 ghost use Rattle.territory.specs.Meaning.{Lawful, HoldsNothing};
 
+/// A set of points, with a sameness of points and a common point of two sets.
 pub trait Territory {
     type Point: Copy;
 
@@ -23,10 +24,11 @@ pub trait Territory {
     fn same(a: Self::Point, b: Self::Point) -> bool
         ensures { λ r. ⌜ r ≡ same a b ⌝ };
 
-    // A point that both hold, or none exactly when they share no point.
+    /// A point that both hold, or none exactly when they share no point.
     fn common(&self, other: &Self) -> Option<Self::Point>
         ensures { λ r. ⌜ r ≡ common (now (self .entry)) (now (other .entry)) ⌝ };
 
+    /// Whether no point is held.
     fn is_empty(&self) -> bool
         ensures value { λ r. ⌜ r ≡ not (isSome (common (now (self .entry)) (now (self .entry)))) ⌝ }
         ensures meaning { λ r. ⌜ Decides r (HoldsNothing holds (now (self .entry))) ⌝ }

@@ -45,10 +45,8 @@ fn read_number(text: &[u8]) -> Option<AddressNumber>
     if text.len() > 1 && text[0] == b'0' {
         return None;
     }
-    match digits_value(text) {
-        Some(value) => Some(AddressNumber { value }),
-        None => None,
-    }
+    let value = digits_value(text)?;
+    Some(AddressNumber { value })
 }
 
 fn digits_value(text: &[u8]) -> Option<u32>

@@ -12,10 +12,10 @@ pub returns-then-text-eq48 : need.returns-then-text-eq48
 unfolding read-number
 returns-then-text-eq48 c = grind (arith, tells)
 
-pub returns-in-Some : need.returns-in-Some
+pub returns : need.returns
 unfolding read-number
-returns-in-Some c = grind (arith, tells)
+returns c = grind (arith, tells)
 
-pub returns-in-None : need.returns-in-None
+pub returns-in-Break-value : need.returns-in-Break-value
 unfolding read-number
-returns-in-None c = grind (arith, tells)
+returns-in-Break-value c = grind (arith, tells)

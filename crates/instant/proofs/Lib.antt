@@ -1,0 +1,11 @@
+mod Bounds
+mod Days
+mod Digits
+mod Exact
+mod Found
+mod InOrder
+mod Near
+mod Rests
+mod Shapes
+mod Times
+mod Zones
