@@ -77,7 +77,10 @@ fn full_name(heap: Global, elements: &[&str]) -> Answer {
 }
 
 fn lifetime(effective: &[u8], expire: &[u8]) -> Option<Lifetime> {
-    Lifetime::new(Instant::read_effective(effective)?, Instant::read_expire(expire)?)
+    Lifetime::new(
+        Instant::read_effective(effective)?,
+        Instant::read_expire(expire)?,
+    )
 }
 
 fn meeting(heap: Global, texts: &[&str]) -> Answer {

@@ -17,7 +17,10 @@ fn run_example(rt: &LibcRuntime, example: &Example) -> Result<bool, AnyError> {
     let kind = example.kind;
     let shown = example.shown;
     let expected = example.expected;
-    println!(rt, "{verdict}: {kind} {shown} is {read}, expected {expected}")?;
+    println!(
+        rt,
+        "{verdict}: {kind} \"{shown}\" is {read}, expected {expected}"
+    )?;
     Ok(agrees)
 }
 

@@ -6,7 +6,7 @@ use std::alloc::Global;
 pub struct Example<'a> {
     pub kind: &'a str,
     pub texts: Vec<&'a str>,
-    // The texts as the line has them, in their quotation marks.
+    // The texts as the line has them, but for the first and the last quotation mark.
     pub shown: &'a str,
     pub expected: &'a str,
 }

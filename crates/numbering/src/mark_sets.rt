@@ -33,7 +33,8 @@ impl Marks {
         let first = self.first.max(other.first);
         Marks {
             first,
-            bits: bits_from(self.bits, first - self.first) & bits_from(other.bits, first - other.first),
+            bits: bits_from(self.bits, first - self.first)
+                & bits_from(other.bits, first - other.first),
         }
     }
 
@@ -62,7 +63,9 @@ pub impl Territory for Marks as MarksTerritory {
     ghost common = { least-shared marks-hold marks-past };
 
     fn holds(&self, point: AddressNumber) -> bool {
-        self.first <= point.value && point.value <= GREATEST_NUMBER && bits_from(self.bits, point.value - self.first) % 2 == 1
+        self.first <= point.value
+            && point.value <= GREATEST_NUMBER
+            && bits_from(self.bits, point.value - self.first) % 2 == 1
     }
 
     fn same(a: AddressNumber, b: AddressNumber) -> bool {
