@@ -9,5 +9,5 @@ returns c =
       reads = told;
       exactly = rw told (number-exactly text);
       not-past = not-past text _ told;
-      reads-back = reads-back
+      reads-back = reads-back;
     }
