@@ -15,7 +15,7 @@ use text::AddressNumber;
 
 const GREATEST_NUMBER: u32 = 999_999;
 
-// From it on the last number is the greatest.
+// From it on the last of 64 numbers is the greatest.
 const GREATEST_FIRST: u32 = 999_936;
 
 // Number `first + i` is held where bit `i` is set, up to the greatest number. Plain values: any can stand in a table.
@@ -33,8 +33,7 @@ impl Marks {
         let first = self.first.max(other.first);
         Marks {
             first,
-            bits: bits_from(self.bits, first - self.first)
-                & bits_from(other.bits, first - other.first),
+            bits: bits_from(self.bits, first - self.first) & bits_from(other.bits, first - other.first),
         }
     }
 
@@ -63,9 +62,8 @@ pub impl Territory for Marks as MarksTerritory {
     ghost common = { least-shared marks-hold marks-past };
 
     fn holds(&self, point: AddressNumber) -> bool {
-        self.first <= point.value
-            && point.value <= GREATEST_NUMBER
-            && bits_from(self.bits, point.value - self.first) % 2 == 1
+        let number = point.value;
+        self.first <= number && number <= GREATEST_NUMBER && bits_from(self.bits, number - self.first) % 2 == 1
     }
 
     fn same(a: AddressNumber, b: AddressNumber) -> bool {
@@ -134,12 +132,12 @@ fn read_first(text: &[u8]) -> Option<AddressNumber>
     }
 }
 
-// The bits from the one with this number on.
-fn bits_from(bits: u64, number: u32) -> u64
-    ensures { λ r. ⌜ r ≡ bits / 2 ^ number ⌝ }
+// The bits from a place on: none where the place is past them.
+fn bits_from(bits: u64, place: u32) -> u64
+    ensures { λ r. ⌜ r ≡ bits / 2 ^ place ⌝ }
 {
-    if number < u64::BITS {
-        bits >> number
+    if place < u64::BITS {
+        bits >> place
     } else {
         0
     }
