@@ -21,8 +21,41 @@ pub all-hold : All Told cases
 unfolding first-from digits-value read-number hex-after bit-set days-of-months days-of-years has-form instant-in
 all-hold = (
   refl,
-  (refl, (refl, (refl, (touching,
-  ((_, refl, refl), ((_, refl, refl), ((_, refl, refl), ((_, refl, refl),
-  ((_, refl, (_, refl, refl)), ((_, refl, (_, refl, refl)), (refl, ((_, refl, λ n. grind (arith, tests)),
-  ((_, refl, (_, refl, refl)), tt))))))))))))),
+  (
+    refl,
+    (
+      refl,
+      (
+        refl,
+        (
+          touching,
+          (
+            (_, refl, refl),
+            (
+              (_, refl, refl),
+              (
+                (_, refl, refl),
+                (
+                  (_, refl, refl),
+                  (
+                    (_, refl, (_, refl, refl)),
+                    (
+                      (_, refl, (_, refl, refl)),
+                      (
+                        refl,
+                        (
+                          (_, refl, λ n. grind (arith, tests)),
+                          ((_, refl, (_, refl, refl)), tt),
+                        ),
+                      ),
+                    ),
+                  ),
+                ),
+              ),
+            ),
+          ),
+        ),
+      ),
+    ),
+  ),
 )

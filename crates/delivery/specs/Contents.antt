@@ -3,6 +3,10 @@
 use mathlib.Core.List.{List}
 use Prim.Native.Nat.{ℕ, _+_, _*_}
 use lib.ListN.{getD}
+use Rattle.territory.specs.BytePlaces.{byte-place}
+use Rattle.territory.specs.Stretches.{from-to}
+use Rattle.territory.specs.declared.byte_places.BytePlace.{BytePlace}
+use Rattle.territory.specs.declared.stretches.Stretch.{Stretch}
 
 abbrev pub number-at : List ℕ → ℕ → ℕ
 number-at bytes at = 256 * getD bytes at 0 + getD bytes (at + 1) 0
@@ -25,3 +29,7 @@ body-length bytes entry = number-at bytes (table-end entry + 3)
 
 abbrev pub body-end : List ℕ → ℕ → ℕ
 body-end bytes entry = body-place bytes entry + body-length bytes entry
+
+-- the bytes of a body, as a stretch
+abbrev pub body-stretch : List ℕ → ℕ → Stretch BytePlace
+body-stretch bytes entry = from-to (byte-place (body-place bytes entry)) (byte-place (body-end bytes entry))

@@ -3,9 +3,8 @@ ghost use mathlib.Core.Path.{_≡_};
 ghost use Prim.Native.Nat.{_+_, _^_, _≤_, _<_};
 ghost use lib.Dec.{leb};
 ghost use lib.ListN.{length};
-ghost use Rattle.territory.specs.BytePlaces.{byte-place};
 ghost use Rattle.territory.specs.Stretches.{from-to};
-ghost use Rattle.delivery.specs.Contents.{number-at, table-end, body-place, body-length, body-end};
+ghost use Rattle.delivery.specs.Contents.{number-at, table-end, body-place, body-length, body-stretch};
 use territory::ByteSpan;
 
 pub(crate) const MOST_BYTES: usize = 65535;
@@ -55,7 +54,7 @@ pub(crate) fn body_length(bytes: &[u8], number: usize) -> u16
 
 pub(crate) fn body_span(bytes: &[u8], number: usize) -> ByteSpan
     requires { ⌜ table-end (number + 1) ≤ length (now bytes) ⌝ }
-    ensures { λ r. ⌜ from-to (r .first) (r .end) ≡ from-to (byte-place (body-place (now (bytes .entry)) number)) (byte-place (body-end (now (bytes .entry)) number)) ⌝ }
+    ensures { λ r. ⌜ from-to (r .first) (r .end) ≡ body-stretch (now (bytes .entry)) number ⌝ }
 {
     ByteSpan::of_length(body_place(bytes, number), body_length(bytes, number))
 }

@@ -16,16 +16,16 @@ use text::Layer;
 use text::Nguid;
 use text::TextField;
 
-pub type Answer = Result<String, AllocError>;
+pub(crate) type Answer = Result<String, AllocError>;
 
-pub fn text_at<'a>(texts: &[&'a str], place: usize) -> &'a [u8] {
+pub(crate) fn text_at<'a>(texts: &[&'a str], place: usize) -> &'a [u8] {
     match texts.get(place) {
         Some(text) => text.as_bytes(),
         None => b"",
     }
 }
 
-pub fn refused(heap: Global) -> Answer {
+pub(crate) fn refused(heap: Global) -> Answer {
     String::from_str(heap, "refused")
 }
 
@@ -109,7 +109,7 @@ fn plain(heap: Global, kind: &str, text: &[u8]) -> Answer {
     }
 }
 
-pub fn answer(heap: Global, kind: &str, texts: &[&str]) -> Answer {
+pub(crate) fn answer(heap: Global, kind: &str, texts: &[&str]) -> Answer {
     let text = text_at(texts, 0);
     match kind {
         "date" => date(heap, text),

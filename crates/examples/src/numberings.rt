@@ -32,14 +32,14 @@ fn read_from<N: Numbering>(texts: &[&str], first: usize) -> Result<N, NumberingT
     )
 }
 
-pub fn range(heap: Global, texts: &[&str]) -> Answer {
+pub(crate) fn range(heap: Global, texts: &[&str]) -> Answer {
     match read_from::<Range>(texts, 0) {
         Ok(range) => format!(heap, "{} to {}", range.from, range.to),
         Err(text) => fault(heap, text),
     }
 }
 
-pub fn marks(heap: Global, texts: &[&str]) -> Answer {
+pub(crate) fn marks(heap: Global, texts: &[&str]) -> Answer {
     match read_from::<Marks>(texts, 0) {
         Ok(marks) => format!(heap, "{} from {}", marks.bits.count_ones(), marks.first),
         Err(text) => fault(heap, text),
@@ -47,7 +47,7 @@ pub fn marks(heap: Global, texts: &[&str]) -> Answer {
 }
 
 // Whether the numbering of the first three texts holds the place that the fourth says.
-pub fn holds<N: Numbering>(heap: Global, texts: &[&str]) -> Answer {
+pub(crate) fn holds<N: Numbering>(heap: Global, texts: &[&str]) -> Answer {
     let Ok(numbering) = read_from::<N>(texts, 0) else {
         return refused(heap);
     };
@@ -68,7 +68,7 @@ fn shared<N: Numbering>(texts: &[&str]) -> Result<Option<N::Point>, NumberingTex
 }
 
 // The place that the numberings of three texts and of three more share, as it is written.
-pub fn meets<N: Numbering>(heap: Global, texts: &[&str]) -> Answer {
+pub(crate) fn meets<N: Numbering>(heap: Global, texts: &[&str]) -> Answer {
     match shared::<N>(texts) {
         Ok(Some(place)) => written::<N>(heap, place),
         Ok(None) => String::from_str(heap, "none"),

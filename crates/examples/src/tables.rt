@@ -3,7 +3,7 @@ use std::alloc::AllocError;
 use std::alloc::Global;
 
 #[derive(Drop)]
-pub struct Example<'a> {
+pub(crate) struct Example<'a> {
     pub kind: &'a str,
     pub texts: Vec<&'a str>,
     // The texts as the line has them, but for the first and the last quotation mark.
@@ -12,7 +12,7 @@ pub struct Example<'a> {
 }
 
 impl<'a> Example<'a> {
-    pub fn read(heap: Global, line: &'a str) -> Result<Option<Example<'a>>, AllocError> {
+    pub(crate) fn read(heap: Global, line: &'a str) -> Result<Option<Example<'a>>, AllocError> {
         let Some((kind, rest)) = line.split_once(" \"") else {
             return Ok(None);
         };

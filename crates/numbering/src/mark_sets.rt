@@ -33,7 +33,8 @@ impl Marks {
         let first = self.first.max(other.first);
         Marks {
             first,
-            bits: bits_from(self.bits, first - self.first) & bits_from(other.bits, first - other.first),
+            bits: bits_from(self.bits, first - self.first)
+                & bits_from(other.bits, first - other.first),
         }
     }
 
@@ -63,7 +64,9 @@ pub impl Territory for Marks as MarksTerritory {
 
     fn holds(&self, point: AddressNumber) -> bool {
         let number = point.value;
-        self.first <= number && number <= GREATEST_NUMBER && bits_from(self.bits, number - self.first) % 2 == 1
+        self.first <= number
+            && number <= GREATEST_NUMBER
+            && bits_from(self.bits, number - self.first) % 2 == 1
     }
 
     fn same(a: AddressNumber, b: AddressNumber) -> bool {
@@ -136,9 +139,5 @@ fn read_first(text: &[u8]) -> Option<AddressNumber>
 fn bits_from(bits: u64, place: u32) -> u64
     ensures { λ r. ⌜ r ≡ bits / 2 ^ place ⌝ }
 {
-    if place < u64::BITS {
-        bits >> place
-    } else {
-        0
-    }
+    if place < u64::BITS { bits >> place } else { 0 }
 }
