@@ -4,7 +4,7 @@ ghost use lib.ListN.{length};
 ghost use Rattle.std.specs.shelf.Lists.{All};
 ghost use Rattle.cases.specs.Cases.{Told, cases};
 
-// Tells how many cases there are.
+/// Tells how many cases there are.
 pub fn worked_cases_hold() -> usize
     ensures count { λ r. ⌜ r ≡ length cases ⌝ }
     ensures hold { λ _. ⌜ All Told cases ⌝ }

@@ -68,7 +68,7 @@ fn days_from_1900(year: u32, month: u32, day: u32) -> u32
     days_before_year(year) + days_before_month(year, month) + (day - 1)
 }
 
-// The days from 1970-01-01 to the date, negative before it; none if the years 1900 to 2199 have no such date.
+/// The days from 1970-01-01 to the date, negative before it; none if the years 1900 to 2199 have no such date.
 pub fn days_from_1970(year: u32, month: u32, day: u32) -> Option<i64>
     ensures { λ r. ⌜ r ≡ calendar-day year month day ⌝ }
 {

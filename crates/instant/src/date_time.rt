@@ -15,7 +15,7 @@ use crate::zone::zone_minutes;
 // The bytes of `YYYY-MM-DDThh:mm:ss`.
 const LOCAL_WIDTH: usize = 19;
 
-// Tenths of a second from 1970-01-01T00:00:00Z, negative before it.
+/// Tenths of a second from 1970-01-01T00:00:00Z, negative before it.
 #[derive(Clone, Copy)]
 pub struct Instant {
     pub tenths: i64,
@@ -53,7 +53,7 @@ fn parse(text: &[u8]) -> Option<Instant>
 }
 
 impl Instant {
-    // Reads `YYYY-MM-DDThh:mm:ss`, a point and a digit or neither, and `Z` or a sign and `hh:mm`.
+    /// Reads `YYYY-MM-DDThh:mm:ss`, a point and a digit or neither, and `Z` or a sign and `hh:mm`.
     pub fn read(text: &[u8]) -> Option<Instant>
         ensures meaning { λ r. ⌜ r ≡ instant-in (now (text .entry)) ⌝ }
         ensures exactly { λ r. ⌜ Exactly (Tells (now (text .entry))) r ⌝ }

@@ -20,7 +20,7 @@ pub struct Lifetime {
 }
 
 impl Lifetime {
-    // None where the Effective is after the Expire.
+    /// None where the Effective is after the Expire.
     pub fn new(effective: Instant, expire: Instant) -> Option<Lifetime>
         ensures { λ r. ⌜ mapped (λ t. from-to (t .effective) (t .expire)) r ≡ lifetime-from effective expire ⌝ }
     {

@@ -25,7 +25,7 @@ impl Instant {
         }
     }
 
-    // Reads a dateTime; an empty text is the earliest instant.
+    /// Reads a dateTime; an empty text is the earliest instant.
     pub fn read_effective(text: &[u8]) -> Option<Instant>
         ensures meaning { λ r. ⌜ r ≡ instant-or earliest (now (text .entry)) ⌝ }
         ensures exactly { λ r. ⌜ Exactly (TellsOr earliest (now (text .entry))) r ⌝ }
@@ -33,7 +33,7 @@ impl Instant {
         Self::read_or(Self::EARLIEST, text)
     }
 
-    // Reads a dateTime; an empty text is the latest instant.
+    /// Reads a dateTime; an empty text is the latest instant.
     pub fn read_expire(text: &[u8]) -> Option<Instant>
         ensures meaning { λ r. ⌜ r ≡ instant-or latest (now (text .entry)) ⌝ }
         ensures exactly { λ r. ⌜ Exactly (TellsOr latest (now (text .entry))) r ⌝ }
@@ -41,7 +41,7 @@ impl Instant {
         Self::read_or(Self::LATEST, text)
     }
 
-    // Whether the instant lies from the earliest up to, without, the latest.
+    /// Whether the instant lies from the earliest up to, without, the latest.
     pub fn is_within_limits(self) -> bool
         ensures { λ r. ⌜ r ≡ is-within self ⌝ }
     {

@@ -18,7 +18,7 @@ const GREATEST_NUMBER: u32 = 999_999;
 // From it on the last of 64 numbers is the greatest.
 const GREATEST_FIRST: u32 = 999_936;
 
-// Number `first + i` is held where bit `i` is set, up to the greatest number. Plain values: any can stand in a table.
+/// Number `first + i` is held where bit `i` is set, up to the greatest number. Plain values: any can stand in a table.
 #[derive(Clone, Copy)]
 pub struct Marks {
     pub first: u32,

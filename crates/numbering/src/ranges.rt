@@ -13,7 +13,7 @@ use territory::NumberingText;
 use territory::Territory;
 use text::AddressNumber;
 
-// Plain values: any numbers can stand in a table, and either end can be the smaller one.
+/// Plain values: any numbers can stand in a table, and either end can be the smaller one.
 #[derive(Clone, Copy)]
 pub struct Range {
     pub from: u32,
