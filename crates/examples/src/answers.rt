@@ -1,7 +1,12 @@
 // What the readers make of the texts of an example, in words.
+use crate::numberings;
 use instant::Instant;
 use instant::Lifetime;
 use instant::LifetimeTerritory;
+use numbering::Marks;
+use numbering::MarksNumbering;
+use numbering::Range;
+use numbering::RangeNumbering;
 use std::alloc::AllocError;
 use std::alloc::Global;
 use territory::Territory;
@@ -11,16 +16,16 @@ use text::Layer;
 use text::Nguid;
 use text::TextField;
 
-type Answer = Result<String, AllocError>;
+pub type Answer = Result<String, AllocError>;
 
-fn text_at<'a>(texts: &[&'a str], place: usize) -> &'a [u8] {
+pub fn text_at<'a>(texts: &[&'a str], place: usize) -> &'a [u8] {
     match texts.get(place) {
         Some(text) => text.as_bytes(),
         None => b"",
     }
 }
 
-fn refused(heap: Global) -> Answer {
+pub fn refused(heap: Global) -> Answer {
     String::from_str(heap, "refused")
 }
 
@@ -111,6 +116,12 @@ pub fn answer(heap: Global, kind: &str, texts: &[&str]) -> Answer {
         "number" => number(heap, text),
         "name" => full_name(heap, texts),
         "lifetimes" => meeting(heap, texts),
+        "range" => numberings::range(heap, texts),
+        "range holds" => numberings::holds::<Range>(heap, texts),
+        "range meets" => numberings::meets::<Range>(heap, texts),
+        "marks" => numberings::marks(heap, texts),
+        "marks hold" => numberings::holds::<Marks>(heap, texts),
+        "marks meet" => numberings::meets::<Marks>(heap, texts),
         _ => plain(heap, kind, text),
     }
 }

@@ -1,5 +1,6 @@
 // Runs worked examples and edges: reads each line of a table, and compares what is read with what is expected.
 mod answers;
+mod numberings;
 mod tables;
 
 use answers::answer;
