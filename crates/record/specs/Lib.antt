@@ -1,3 +1,6 @@
 pub mod Bodies
+pub mod Checking
+pub mod Judging
 pub mod Laid
 pub mod Layouts
+pub mod Refusals

@@ -2,7 +2,7 @@
 ghost use mathlib.Core.Path.{_≡_};
 ghost use Rattle.std.specs.Results.{mapped as mapped-result};
 ghost use Rattle.delivery.specs.Opened.{body-part};
-ghost use Rattle.delivery.specs.Fields.{field-part, field-from};
+ghost use Rattle.delivery.specs.Fields.{field-part, field-from, place-in};
 ghost use Rattle.record.specs.Bodies.{field-start, field-text, broken-at};
 use delivery::Body;
 use delivery::Field;
@@ -25,6 +25,16 @@ pub(crate) fn text_at<'a>(body: Body<'a>, index: usize) -> &'a [u8]
     match field_at(body, index) {
         Ok(field) => field.bytes,
         Err(_) => b"",
+    }
+}
+
+// The place of a field's length byte, or of the one that the walk does not pass.
+pub(crate) fn place_at(body: Body, index: usize) -> usize
+    ensures { λ r. ⌜ r ≡ place-in (body-part (body .entry)) (field-start (now (body .entry .bytes)) index) ⌝ }
+{
+    match field_at(body, index) {
+        Ok(field) => field.place,
+        Err(place) => place,
     }
 }
 
