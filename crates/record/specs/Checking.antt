@@ -8,6 +8,7 @@ use Rattle.std.specs.declared.option.Option.{Option}
 use Rattle.std.specs.declared.option.Option.the-variants.{Some, None}
 use Rattle.promise.specs.First.{first-below}
 use Rattle.territory.specs.declared.numberings.Numbering.{Ghosts}
+use Rattle.text.specs.declared.nguid.Layer.the-variants as layer
 use Rattle.instant.specs.Instants.{instant-before}
 use Rattle.instant.specs.Limits.{earliest, latest, instant-or}
 use Rattle.instant.specs.declared.date_time.Instant.{Instant}
@@ -19,16 +20,12 @@ use Rattle.record.specs.Bodies.{field-start, field-text, broken-at}
 use Rattle.record.specs.Judging.{faulty-as}
 use Rattle.record.specs.Layouts.{layout}
 use Rattle.record.specs.declared.field_names.FieldName.{FieldName}
-use Rattle.record.specs.declared.field_names.FieldName.the-variants.{Retirement}
+use Rattle.record.specs.declared.field_names.FieldName.the-variants.{Identifier}
 use Rattle.record.specs.declared.refusals.BodyRefusal.{BodyRefusal}
 use Rattle.record.specs.declared.refusals.BodyRefusal.the-variants.{Broken, Field, Lifetime}
 
 abbrev pub field-count : Kind → ℕ
 field-count kind = length (layout kind)
-
--- the name of the field of a number below the count, from 0
-abbrev pub name-at : Kind → ℕ → FieldName
-name-at kind index = getD (layout kind) index Retirement
 
 abbrev pub has-lifetime : Kind → Bool
 has-lifetime Road = true
@@ -53,15 +50,16 @@ no-lifetime kind body =
 abbrev pub fault-told : Part → ℕ → BodyRefusal
 fault-told body index = Field (index + 1) (place-in body (field-start (body .bytes) index))
 
-module _ {N P : Type 0} (m : Ghosts N P) (kind : Kind) where
-  unfoldable pub faulty : List ℕ → ℕ → Bool
-  faulty body index = faulty-as m (name-at kind index) body index
+module _ {N P : Type 0} (m : Ghosts N P) where
+  -- of fields of these names, the one of a number below their count, from 0
+  unfoldable pub faulty : List FieldName → List ℕ → ℕ → Bool
+  faulty names body index = faulty-as m (getD names index (Identifier layer.Road)) body index
 
-  abbrev pub fault-of : Part → Option BodyRefusal
-  fault-of body = mapped (fault-told body) (first-below (faulty (body .bytes)) (field-count kind))
+  abbrev pub fault-of : List FieldName → Part → Option BodyRefusal
+  fault-of names body = mapped (fault-told body) (first-below (faulty names (body .bytes)) (length names))
 
   -- the reason for which the body is refused, if any
-  abbrev pub refusal-of : Part → Option BodyRefusal
-  refusal-of body =
+  abbrev pub refusal-of : Kind → Part → Option BodyRefusal
+  refusal-of kind body =
       orOther (mapped Broken (broken-at body 0 (field-count kind)))
-      (orOther (fault-of body) (cond (no-lifetime kind (body .bytes)) (Some Lifetime) None))
+      (orOther (fault-of (layout kind) body) (cond (no-lifetime kind (body .bytes)) (Some Lifetime) None))

@@ -4,3 +4,4 @@ pub mod Judging
 pub mod Laid
 pub mod Layouts
 pub mod Refusals
+pub mod Rules

@@ -1,9 +1,15 @@
 // The checks of a body: that it is whole, that no field is at fault, that it has a lifetime.
 ghost use mathlib.Core.Path.{_≡_};
+ghost use Prim.Native.Nat.{_^_, _<_};
+ghost use lib.ListN.{length};
+ghost use Rattle.std.specs.declared.option.Option.the-variants.{None};
 ghost use Rattle.delivery.specs.Opened.{body-part};
 ghost use Rattle.record.specs.Checking.{has-lifetime, no-time, no-lifetime, fault-of, refusal-of};
+ghost use Rattle.record.specs.Laid.{Laid};
+ghost use Rattle.record.specs.Rules.{RefusedRightly, fields-of};
 ghost use Rattle.instant.specs.Limits.{earliest, latest, instant-or};
 use crate::BodyRefusal;
+use crate::FieldName;
 use crate::judging::is_faulty;
 use crate::layouts::layout;
 use crate::walking::broken_at;
@@ -18,12 +24,21 @@ use territory::Numbering;
 
 /// The first reason for which the body is refused, if any.
 pub fn refusal<N: Numbering>(kind: Kind, body: Body) -> Option<BodyRefusal>
+    ensures value { λ r. ⌜ r ≡ refusal-of N·Numbering kind (body-part (body .entry)) ⌝ }
+    ensures rightly { λ r. ⌜ RefusedRightly N·Numbering kind (body-part (body .entry)) r ⌝ }
+    ensures whole { λ r. ⌜ (r ≡ None → Laid (now (body .entry .bytes)) (fields-of kind (now (body .entry .bytes)))) ⌝ }
+{
+    first_refusal::<N>(kind, body)
+}
+
+fn first_refusal<N: Numbering>(kind: Kind, body: Body) -> Option<BodyRefusal>
     ensures { λ r. ⌜ r ≡ refusal-of N·Numbering kind (body-part (body .entry)) ⌝ }
 {
-    if let Some(place) = broken_at(body, layout(kind).len()) {
+    let names = layout(kind);
+    if let Some(place) = broken_at(body, names.len()) {
         return Some(BodyRefusal::Broken(place));
     }
-    if let Some(fault) = fault::<N>(kind, body) {
+    if let Some(fault) = fault::<N>(names, body) {
         return Some(fault);
     }
     if has_no_lifetime(kind, body) {
@@ -33,10 +48,10 @@ pub fn refusal<N: Numbering>(kind: Kind, body: Body) -> Option<BodyRefusal>
 }
 
 // The first field at fault.
-fn fault<N: Numbering>(kind: Kind, body: Body) -> Option<BodyRefusal>
-    ensures { λ r. ⌜ r ≡ fault-of N·Numbering kind (body-part (body .entry)) ⌝ }
+fn fault<N: Numbering>(names: &[FieldName], body: Body) -> Option<BodyRefusal>
+    requires { ⌜ length (now names) < 2 ^ 32 ⌝ }
+    ensures { λ r. ⌜ r ≡ fault-of N·Numbering (now (names .entry)) (body-part (body .entry)) ⌝ }
 {
-    let names = layout(kind);
     for index in 0..names.len() {
         if is_faulty::<N>(names[index], body, index) {
             return Some(BodyRefusal::Field {
