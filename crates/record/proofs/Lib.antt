@@ -1,3 +1,4 @@
 pub mod Laying
+pub mod Passed
 pub mod Refused
 pub mod Walks

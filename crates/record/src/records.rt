@@ -1,0 +1,54 @@
+// Bodies that passed the checks of their kind.
+ghost use mathlib.Core.Path.{_≡_};
+ghost use Rattle.std.specs.Results.{errPart, mapped as mapped-result};
+ghost use Rattle.std.specs.Vec.{made};
+ghost use Rattle.delivery.specs.Opened.{body-part};
+ghost use Rattle.record.specs.Bodies.{field-text};
+ghost use Rattle.record.specs.Laid.{Laid};
+ghost use Rattle.record.specs.Passing.{passing, Passes};
+ghost use Rattle.record.specs.Rules.{RefusedRightly, fields-of};
+use crate::BodyKind;
+use crate::BodyRefusal;
+use crate::checking::refusal;
+use crate::walking::text_at;
+use delivery::Body;
+use std::marker::PhantomData;
+use territory::Numbering;
+
+/// A body that passed the checks of its kind; only `check` makes one.
+#[derive(Drop)]
+pub struct Checked<'a, K> {
+    body: Body<'a>,
+    kind: PhantomData<K>,
+}
+
+/// Checks a body of the kind, and refuses it with the first reason that applies.
+pub fn check<'a, N: Numbering, K: BodyKind>(body: Body<'a>) -> Result<Checked<'a, K>, BodyRefusal>
+    ensures value { λ r. ⌜ mapped-result (λ c. body-part (c .body)) (λ e. e) r ≡ passing N·Numbering (K·BodyKind .kind) (body-part (body .entry)) ⌝ }
+    ensures rightly { λ r. ⌜ RefusedRightly N·Numbering (K·BodyKind .kind) (body-part (body .entry)) (errPart r) ⌝ }
+    ensures laid { λ r. ⌜ made r (λ _. Laid (now (body .entry .bytes)) (fields-of (K·BodyKind .kind) (now (body .entry .bytes)))) ⌝ }
+    ensures passes { λ r. ⌜ made r (λ _. Passes (K·BodyKind .kind) (body-part (body .entry))) ⌝ }
+{
+    answer::<N, K>(body)
+}
+
+fn answer<'a, N: Numbering, K: BodyKind>(body: Body<'a>) -> Result<Checked<'a, K>, BodyRefusal>
+    ensures { λ r. ⌜ mapped-result (λ c. body-part (c .body)) (λ e. e) r ≡ passing N·Numbering (K·BodyKind .kind) (body-part (body .entry)) ⌝ }
+{
+    match refusal::<N>(K::kind(), body) {
+        Some(refusal) => Err(refusal),
+        None => Ok(Checked {
+            body,
+            kind: PhantomData,
+        }),
+    }
+}
+
+impl<'a, K> Checked<'a, K> {
+    /// The text of a field by its number in the layout of the kind, from 0; empty where there is no such field.
+    pub fn text(&self, index: usize) -> &'a [u8]
+        ensures { λ r. ⌜ now r ≡ field-text (now (now (self .entry) .body .bytes)) index ⌝ }
+    {
+        text_at(self.body, index)
+    }
+}
