@@ -1,6 +1,7 @@
 -- The fields of each kind of body, in their order, and which of them a body has to have. Assumes nothing.
 use mathlib.Core.Bool.{Bool, true, false}
 use mathlib.Core.List.{List, [], _∷_, _++_}
+use Prim.Native.Nat.{ℕ}
 use Rattle.delivery.specs.declared.kinds.Kind.{Kind}
 use Rattle.delivery.specs.declared.kinds.Kind.the-variants.{Road, Alias, Point, RoadRetirement, PointRetirement}
 use Rattle.territory.specs.declared.numberings.NumberingText.the-variants.{First, Second, Third}
@@ -59,3 +60,11 @@ is-required DateUpdate = true
 is-required Effective = false
 is-required Expire = false
 is-required Retirement = true
+
+-- where, from 0, the three numbering texts of a road's side begin, and where a point's place stands
+abbrev pub numbering-field : Side → ℕ
+numbering-field Left = 12
+numbering-field Right = 18
+
+abbrev pub place-field : ℕ
+place-field = 13

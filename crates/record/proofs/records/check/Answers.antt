@@ -1,4 +1,5 @@
-use mathlib.Core.Path.{sym, subst}
+use mathlib.Core.Path.{_≡_, sym, subst}
+use Rattle.std.specs.declared.option.Option.the-variants.{None}
 use Rattle.delivery.specs.Opened.{body-part}
 use Rattle.record.specs.Checking.{refusal-of}
 use Rattle.record.specs.Laid.{Laid}
@@ -18,6 +19,7 @@ returns g c =
     record {
       value = same;
       rightly = subst (RefusedRightly (g .N·Numbering) kind body) (sym (refuses (λ r. body-part (r .body)) body answer why same)) (refused-rightly (g .N·Numbering) kind body);
+      unrefused = made-when (λ r. body-part (r .body)) body (why ≡ None) answer why same (λ none. none);
       laid = made-when (λ r. body-part (r .body)) body (Laid (body .bytes) (fields-of kind (body .bytes))) answer why same (accepted-whole (g .N·Numbering) kind body);
       passes = made-when (λ r. body-part (r .body)) body (Passes kind body) answer why same (passes (g .N·Numbering) kind body);
     }
