@@ -133,16 +133,17 @@ module _ (body : Part) where
       let b = w .1 in
       let size = length-field (body .bytes) at fits in
       let all = length-append (laid field) (joined laid (b .fields)) in
-      let off : at + (1 + length field + w .0) ≡ field-end (body .bytes) at + w .0 = omega arith in
-      (1 + length field + w .0,
-      record {
-        fields = field ∷ b .fields;
-        rest = b .rest;
-        parts = split (body .bytes) at fits ∙ ap (λ after. laid field ++ after) (b .parts) ∙ sym (append-assoc (laid field) (joined laid (b .fields)) (b .rest));
-        front = let f = b .front in omega arith;
-        breaks = ⊎-elim (λ few. inl (omega (arith, few .0), few .1)) (λ all′. inr (ap suc (all′ .0), all′ .1)) (b .breaks);
-      },
-      w .2 ∙ ap (place-in body) (sym off))
+      let off : at + (1 + length field + w .0) ≡ field-end (body .bytes) at + w .0 = omega arith in (
+        1 + length field + w .0,
+        record {
+          fields = field ∷ b .fields;
+          rest = b .rest;
+          parts = split (body .bytes) at fits ∙ ap (λ after. laid field ++ after) (b .parts) ∙ sym (append-assoc (laid field) (joined laid (b .fields)) (b .rest));
+          front = let f = b .front in omega arith;
+          breaks = ⊎-elim (λ few. inl (omega (arith, few .0), few .1)) (λ all′. inr (ap suc (all′ .0), all′ .1)) (b .breaks);
+        },
+        w .2 ∙ ap (place-in body) (sym off),
+      )
 
   tells : (at count place : ℕ) → broken-at body at count ≡ Some place → Left at count place
   tells at zero place e =

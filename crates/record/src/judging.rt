@@ -39,7 +39,11 @@ pub(crate) fn read_from<N: Numbering>(body: Body, first: usize) -> Result<N, Num
     requires { ⌜ first < 2 ^ 32 ⌝ }
     ensures { λ r. ⌜ r ≡ reading-from N·Numbering (now (body .entry .bytes)) first ⌝ }
 {
-    N::read(text_at(body, first), text_at(body, first + 1), text_at(body, first + 2))
+    N::read(
+        text_at(body, first),
+        text_at(body, first + 1),
+        text_at(body, first + 2),
+    )
 }
 
 fn blames<N: Numbering>(which: NumberingText, reading: Result<N, NumberingText>) -> bool

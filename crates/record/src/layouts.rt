@@ -73,7 +73,10 @@ const POINT: [FieldName; 19] = [
 
 const ROAD_RETIREMENT: [FieldName; 2] = [FieldName::Identifier(Layer::Road), FieldName::Retirement];
 
-const POINT_RETIREMENT: [FieldName; 2] = [FieldName::Identifier(Layer::AddressPoint), FieldName::Retirement];
+const POINT_RETIREMENT: [FieldName; 2] = [
+    FieldName::Identifier(Layer::AddressPoint),
+    FieldName::Retirement,
+];
 
 pub(crate) fn layout(kind: Kind) -> &'static [FieldName]
     ensures { λ r. ⌜ now r ≡ layout kind ⌝ }

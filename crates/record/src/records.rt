@@ -4,11 +4,12 @@ ghost use Prim.Native.Nat.{_^_, _<_};
 ghost use Rattle.std.specs.declared.option.Option.the-variants.{None};
 ghost use Rattle.std.specs.Results.{errPart, mapped as mapped-result};
 ghost use Rattle.std.specs.Vec.{made};
+ghost use Rattle.instant.specs.Reading.{instant-in};
 ghost use Rattle.delivery.specs.Opened.{body-part};
 ghost use Rattle.record.specs.Bodies.{field-text};
 ghost use Rattle.record.specs.Checking.{refusal-of};
 ghost use Rattle.record.specs.Judging.{reading-from};
-ghost use Rattle.record.specs.Layouts.{numbering-field, place-field};
+ghost use Rattle.record.specs.Layouts.{numbering-field, place-field, NumberingStands, PlaceStands};
 ghost use Rattle.record.specs.Laid.{Laid};
 ghost use Rattle.record.specs.Passing.{passing, Passes};
 ghost use Rattle.record.specs.Rules.{RefusedRightly, fields-of};
@@ -21,6 +22,7 @@ use crate::checking::refusal;
 use crate::judging::read_from;
 use crate::walking::text_at;
 use delivery::Body;
+use instant::Instant;
 use std::marker::PhantomData;
 use territory::Numbering;
 use territory::NumberingText;
@@ -62,6 +64,13 @@ impl<'a, K> Checked<'a, K> {
     {
         text_at(self.body, index)
     }
+
+    /// The instant that a field tells, if it tells one: a DateUpdate, or a retirement's instant.
+    pub fn instant(&self, index: usize) -> Option<Instant>
+        ensures { λ r. ⌜ r ≡ instant-in (field-text (now (now (self .entry) .body .bytes)) index) ⌝ }
+    {
+        Instant::read(self.text(index))
+    }
 }
 
 impl<'a> Checked<'a, RoadBody> {
@@ -76,7 +85,8 @@ impl<'a> Checked<'a, RoadBody> {
 impl<'a> Checked<'a, PointBody> {
     /// The place of the point.
     pub fn place<N: Numbering>(&self) -> Option<N::Point>
-        ensures { λ r. ⌜ r ≡ N·Numbering .place (field-text (now (now (self .entry) .body .bytes)) place-field) ⌝ }
+        ensures stands { λ _. ⌜ PlaceStands ⌝ }
+        ensures value { λ r. ⌜ r ≡ N·Numbering .place (field-text (now (now (self .entry) .body .bytes)) place-field) ⌝ }
     {
         N::read_place(text_at(self.body, PLACE_FIELD))
     }
@@ -88,6 +98,7 @@ const PLACE_FIELD: usize = 13;
 fn numbering_field(side: Side) -> usize
     ensures value { λ r. ⌜ r ≡ numbering-field side ⌝ }
     ensures low { λ r. ⌜ r < 2 ^ 32 ⌝ }
+    ensures stands { λ r. ⌜ NumberingStands side r ⌝ }
 {
     match side {
         Side::Left => 12,
