@@ -1,4 +1,5 @@
-// The bodies of a delivery: the layout of each kind, and the checks of its fields.
+// The bodies of a delivery: the layout of each kind, the checks of its fields with the first reason that applies,
+// and checked bodies, which say by their type what they describe and give their texts, numberings, places and instants.
 mod body_kinds;
 mod checking;
 mod field_names;
