@@ -1,0 +1,4 @@
+pub mod Laying
+pub mod Passed
+pub mod Refused
+pub mod Walks
