@@ -4,13 +4,18 @@ use mathlib.Core.List.{List, []}
 use Prim.Native.Nat.{ℕ, zero, suc}
 use Rattle.std.specs.declared.option.Option.{Option}
 use Rattle.std.specs.declared.option.Option.the-variants.{Some}
-use Rattle.delivery.specs.Fields.{field-bytes, field-end, field-fits, left-over, past-field, place-in}
+use Rattle.std.specs.declared.result.Result.{Result}
+use Rattle.delivery.specs.Fields.{field-bytes, field-end, field-fits, field-from, left-over, past-field, place-in}
 use Rattle.delivery.specs.Opened.{Part}
 
 -- where a field begins; one that does not fit is not passed
 unfoldable pub field-start : List ℕ → ℕ → ℕ
 field-start body zero = 0
 field-start body (suc before) = past-field body (field-start body before)
+
+-- a field by its number, or the place at which the walk to it stops
+abbrev pub field-of : Part → ℕ → Result Part ℕ
+field-of body field = field-from body (field-start (body .bytes) field)
 
 -- the bytes of a field, and none where the body has no such field
 abbrev pub text-from : List ℕ → ℕ → List ℕ

@@ -3,6 +3,7 @@ use mathlib.Core.Path.{_≡_}
 use mathlib.Core.Bool.{false}
 use Prim.Native.Nat.{ℕ, _<_}
 use lib.ListN.{getD}
+use Rattle.std.specs.Results.{mapped}
 use Rattle.std.specs.declared.option.Option.{Option}
 use Rattle.std.specs.declared.option.Option.the-variants.{Some, None}
 use Rattle.std.specs.declared.result.Result.{Result}
@@ -21,6 +22,10 @@ use Rattle.record.specs.declared.refusals.BodyRefusal.{BodyRefusal}
 abbrev pub unless-refused : {A : Type 0} → A → Option BodyRefusal → Result A BodyRefusal
 unless-refused x None = Ok x
 unless-refused x (Some refusal) = Err refusal
+
+-- an answer by the part of the delivery that it accepts
+abbrev pub accepted-part : {C : Type 0} → (C → Part) → Result C BodyRefusal → Result Part BodyRefusal
+accepted-part part answer = mapped part (λ refusal. refusal) answer
 
 abbrev pub passing : {N P : Type 0} → Ghosts N P → Kind → Part → Result Part BodyRefusal
 passing m kind body = unless-refused body (refusal-of m kind body)

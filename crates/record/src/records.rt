@@ -2,7 +2,7 @@
 ghost use mathlib.Core.Path.{_≡_};
 ghost use Prim.Native.Nat.{_^_, _<_};
 ghost use Rattle.std.specs.declared.option.Option.the-variants.{None};
-ghost use Rattle.std.specs.Results.{errPart, mapped as mapped-result};
+ghost use Rattle.std.specs.Results.{errPart};
 ghost use Rattle.std.specs.Vec.{made};
 ghost use Rattle.instant.specs.Reading.{instant-in};
 ghost use Rattle.delivery.specs.Opened.{body-part};
@@ -11,7 +11,7 @@ ghost use Rattle.record.specs.Checking.{refusal-of};
 ghost use Rattle.record.specs.Judging.{reading-from};
 ghost use Rattle.record.specs.Layouts.{numbering-field, place-field, NumberingStands, PlaceStands};
 ghost use Rattle.record.specs.Laid.{Laid};
-ghost use Rattle.record.specs.Passing.{passing, Passes};
+ghost use Rattle.record.specs.Passing.{accepted-part, passing, Passes};
 ghost use Rattle.record.specs.Rules.{RefusedRightly, fields-of};
 use crate::BodyKind;
 use crate::BodyRefusal;
@@ -36,7 +36,7 @@ pub struct Checked<'a, K> {
 
 /// Checks a body of the kind, and refuses it with the first reason that applies.
 pub fn check<'a, N: Numbering, K: BodyKind>(body: Body<'a>) -> Result<Checked<'a, K>, BodyRefusal>
-    ensures value { λ r. ⌜ mapped-result (λ c. body-part (c .body)) (λ e. e) r ≡ passing N·Numbering (K·BodyKind .kind) (body-part (body .entry)) ⌝ }
+    ensures value { λ r. ⌜ accepted-part (λ c. body-part (c .body)) r ≡ passing N·Numbering (K·BodyKind .kind) (body-part (body .entry)) ⌝ }
     ensures rightly { λ r. ⌜ RefusedRightly N·Numbering (K·BodyKind .kind) (body-part (body .entry)) (errPart r) ⌝ }
     ensures unrefused { λ r. ⌜ made r (λ _. refusal-of N·Numbering (K·BodyKind .kind) (body-part (body .entry)) ≡ None) ⌝ }
     ensures laid { λ r. ⌜ made r (λ _. Laid (now (body .entry .bytes)) (fields-of (K·BodyKind .kind) (now (body .entry .bytes)))) ⌝ }
@@ -46,7 +46,7 @@ pub fn check<'a, N: Numbering, K: BodyKind>(body: Body<'a>) -> Result<Checked<'a
 }
 
 fn answer<'a, N: Numbering, K: BodyKind>(body: Body<'a>) -> Result<Checked<'a, K>, BodyRefusal>
-    ensures { λ r. ⌜ mapped-result (λ c. body-part (c .body)) (λ e. e) r ≡ passing N·Numbering (K·BodyKind .kind) (body-part (body .entry)) ⌝ }
+    ensures { λ r. ⌜ accepted-part (λ c. body-part (c .body)) r ≡ passing N·Numbering (K·BodyKind .kind) (body-part (body .entry)) ⌝ }
 {
     match refusal::<N>(K::kind(), body) {
         Some(refusal) => Err(refusal),

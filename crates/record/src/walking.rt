@@ -2,14 +2,14 @@
 ghost use mathlib.Core.Path.{_≡_};
 ghost use Rattle.std.specs.Results.{mapped as mapped-result};
 ghost use Rattle.delivery.specs.Opened.{body-part};
-ghost use Rattle.delivery.specs.Fields.{field-part, field-from, place-in};
-ghost use Rattle.record.specs.Bodies.{field-start, field-text, broken-at};
+ghost use Rattle.delivery.specs.Fields.{field-part, place-in};
+ghost use Rattle.record.specs.Bodies.{field-of, field-start, field-text, broken-at};
 use delivery::Body;
 use delivery::Field;
 use delivery::FieldReader;
 
 pub(crate) fn field_at<'a>(body: Body<'a>, index: usize) -> Result<Field<'a>, usize>
-    ensures { λ r. ⌜ mapped-result field-part (λ p. p) r ≡ field-from (body-part (body .entry)) (field-start (now (body .entry .bytes)) index) ⌝ }
+    ensures { λ r. ⌜ mapped-result field-part (λ p. p) r ≡ field-of (body-part (body .entry)) index ⌝ }
 {
     let mut reader = FieldReader::new(body);
     for passed in 0..index {
