@@ -1,5 +1,4 @@
-pub mod Faults
-pub mod Judged
 pub mod Laying
-pub mod NamedTexts
+pub mod Passed
+pub mod Refused
 pub mod Walks

@@ -1,20 +1,17 @@
 -- When a field of a body is at fault. Assumes nothing.
-use Rattle.std.specs.Prelude.{ℕ, Bool, true, false, not, ◌&&◌, ◌||◌, List, length, is_some, Ok, Err, Option, Result, ◌==◌}
+use Rattle.std.specs.Prelude.{ℕ, ◌+◌, ◌-◌, Bool, true, false, not, ◌&&◌, ◌||◌, List, length, is_some, Ok, Err, Option, Result, ◌==◌}
 use Rattle.territory.specs.declared.numberings.Numbering.{Ghosts}
 use Rattle.territory.specs.declared.numberings.NumberingText.{NumberingText}
 use Rattle.territory.specs.declared.numberings.NumberingText.TheVariants.{First, Second, Third}
 use Rattle.text.specs.FieldText.{is_field_text}
 use Rattle.text.specs.Nguids.{read_nguid}
 use Rattle.text.specs.declared.nguid.Layer.TheVariants as layer
-use Rattle.delivery.specs.declared.kinds.Kind.{Kind}
 use Rattle.instant.specs.Limits.{earliest, latest, instant_or}
 use Rattle.instant.specs.Reading.{instant_in}
 use Rattle.record.specs.Bodies.{field_text}
 use Rattle.record.specs.Layouts.{is_required}
-use Rattle.record.specs.Named.{name_at, text_of}
 use Rattle.record.specs.declared.field_names.FieldName.{FieldName}
 use Rattle.record.specs.declared.field_names.FieldName.TheVariants.{Identifier, RoadIdentifier, Text, SideText, Numbering, Place, DateUpdate, Effective, Expire, Retirement}
-use Rattle.record.specs.declared.field_names.Side.{Side}
 
 -- the form of a text, where no numbering has a say in it
 abbrev pub has_form : FieldName → List ℕ → Bool
@@ -44,25 +41,23 @@ abbrev pub blames : {N : Type 0} → NumberingText → Result N NumberingText �
 blames which (Ok numbering) = false
 blames which (Err told) = ordinal told == ordinal which
 
-module _ {N P : Type 0} (m : Ghosts N P) (kind : Kind) where
-  -- the numbering of a road's side
-  abbrev pub reading_of : List ℕ → Side → Result N NumberingText
-  reading_of body side =
-      m.reading (text_of kind body (Numbering side First)) (text_of kind body (Numbering side Second)) (text_of kind body (Numbering side Third))
+module _ {N P : Type 0} (m : Ghosts N P) where
+  -- the reading of three texts in a row
+  abbrev pub reading_from : List ℕ → ℕ → Result N NumberingText
+  reading_from body first = m.reading (field_text body first) (field_text body (first + 1)) (field_text body (first + 2))
 
   -- what the numbering finds at fault
-  abbrev pub misread : FieldName → List ℕ → Bool
-  misread (Identifier which) body = false
-  misread RoadIdentifier body = false
-  misread (Text field) body = false
-  misread (SideText side field) body = false
-  misread (Numbering side which) body = blames which (reading_of body side)
-  misread Place body = not (is_some (m.place (text_of kind body Place)))
-  misread DateUpdate body = false
-  misread Effective body = false
-  misread Expire body = false
-  misread Retirement body = false
+  abbrev pub misread : FieldName → List ℕ → ℕ → Bool
+  misread (Identifier which) body index = false
+  misread RoadIdentifier body index = false
+  misread (Text field) body index = false
+  misread (SideText side field) body index = false
+  misread (Numbering side which) body index = blames which (reading_from body (index - ordinal which))
+  misread Place body index = not (is_some (m.place (field_text body index)))
+  misread DateUpdate body index = false
+  misread Effective body index = false
+  misread Expire body index = false
+  misread Retirement body index = false
 
-  -- the field of a number, from 0
-  unfoldable pub faulty : List ℕ → ℕ → Bool
-  faulty body index = faulty_text (name_at kind index) (field_text body index) || misread (name_at kind index) body
+  abbrev pub faulty_as : FieldName → List ℕ → ℕ → Bool
+  faulty_as name body index = faulty_text name (field_text body index) || misread name body index

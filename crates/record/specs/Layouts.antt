@@ -1,5 +1,5 @@
 -- The fields of each kind of body, in their order, and which of them a body has to have. Assumes nothing.
-use Rattle.std.specs.Prelude.{Bool, true, false, List, [], ◌∷◌, ◌++◌}
+use Rattle.std.specs.Prelude.{◌≡◌, ℕ, Bool, true, false, List, [], ◌∷◌, ◌++◌, slice_index_or}
 use Rattle.delivery.specs.declared.kinds.Kind.{Kind}
 use Rattle.delivery.specs.declared.kinds.Kind.TheVariants.{Road, Alias, Point, RoadRetirement, PointRetirement}
 use Rattle.territory.specs.declared.numberings.NumberingText.TheVariants.{First, Second, Third}
@@ -58,3 +58,18 @@ is_required DateUpdate = true
 is_required Effective = false
 is_required Expire = false
 is_required Retirement = true
+
+-- where, from 0, the three numbering texts of a road's side begin, and where a point's place stands
+abbrev pub numbering_field : Side → ℕ
+numbering_field Left = 12
+numbering_field Right = 18
+
+abbrev pub place_field : ℕ
+place_field = 13
+
+-- the fields of those numbers are these
+abbrev pub NumberingStands : Side → ℕ → Type 0
+NumberingStands s index = slice_index_or (layout Road) index (Identifier layer.Road) ≡ Numbering s First
+
+abbrev pub PlaceStands : Type 0
+PlaceStands = slice_index_or (layout Point) place_field (Identifier layer.Road) ≡ Place

@@ -3,9 +3,6 @@ pub mod Checking
 pub mod Judging
 pub mod Laid
 pub mod Layouts
-pub mod Named
-pub mod Names
-pub mod Parts
 pub mod Passing
 pub mod Refusals
 pub mod Rules

@@ -1,14 +1,13 @@
 // The checks of a body: that it is whole, that no field is at fault, that it has a lifetime.
-ghost use Rattle.std.specs.Prelude.{◌≡◌, None};
+ghost use Rattle.std.specs.Prelude.{◌≡◌, ◌^◌, ◌<◌, length, None};
 ghost use Rattle.delivery.specs.Opened.{body_part};
-ghost use Rattle.record.specs.Checking.{no_time, no_lifetime, fault_of, refusal_of};
+ghost use Rattle.record.specs.Checking.{has_lifetime, no_time, no_lifetime, fault_of, refusal_of};
 ghost use Rattle.record.specs.Laid.{Laid};
 ghost use Rattle.record.specs.Rules.{RefusedRightly, fields_of};
 ghost use Rattle.instant.specs.Limits.{earliest, latest, instant_or};
 
 use crate::judging::is_faulty;
 use crate::layouts::layout;
-use crate::named::text_named;
 use crate::walking::{broken_at, place_at, text_at};
 use crate::{BodyRefusal, FieldName};
 use delivery::{Body, Kind};
@@ -27,10 +26,11 @@ pub fn refusal<N: Numbering>(kind: Kind, body: Body) -> Option<BodyRefusal>
 fn first_refusal<N: Numbering>(kind: Kind, body: Body) -> Option<BodyRefusal>
     ensures { result ≡ refusal_of N.Numbering kind (body_part body.entry) }
 {
-    if let Some(place) = broken_at(body, layout(kind).len()) {
+    let names = layout(kind);
+    if let Some(place) = broken_at(body, names.len()) {
         return Some(BodyRefusal::Broken(place));
     }
-    if let Some(fault) = fault::<N>(kind, body) {
+    if let Some(fault) = fault::<N>(names, body) {
         return Some(fault);
     }
     if has_no_lifetime(kind, body) {
@@ -40,12 +40,12 @@ fn first_refusal<N: Numbering>(kind: Kind, body: Body) -> Option<BodyRefusal>
 }
 
 // The first field at fault.
-fn fault<N: Numbering>(kind: Kind, body: Body) -> Option<BodyRefusal>
-    ensures { result ≡ fault_of N.Numbering kind (body_part body.entry) }
+fn fault<N: Numbering>(names: &[FieldName], body: Body) -> Option<BodyRefusal>
+    requires { length names.now < 2 ^ 32 }
+    ensures { result ≡ fault_of N.Numbering names.now (body_part body.entry) }
 {
-    let names = layout(kind);
     for index in 0..names.len() {
-        if is_faulty::<N>(kind, names[index], text_at(body, index), body) {
+        if is_faulty::<N>(names[index], body, index) {
             return Some(BodyRefusal::Field {
                 number: index + 1,
                 place: place_at(body, index),
@@ -58,10 +58,20 @@ fn fault<N: Numbering>(kind: Kind, body: Body) -> Option<BodyRefusal>
 fn has_no_lifetime(kind: Kind, body: Body) -> bool
     ensures { result ≡ no_lifetime kind body.entry.bytes.now }
 {
-    is_no_time(
-        text_named(kind, body, FieldName::Effective),
-        text_named(kind, body, FieldName::Expire),
-    )
+    if !has_lifetime(kind) {
+        return false;
+    }
+    let count = layout(kind).len();
+    is_no_time(text_at(body, count - 2), text_at(body, count - 1))
+}
+
+fn has_lifetime(kind: Kind) -> bool
+    ensures { result ≡ has_lifetime kind }
+{
+    match kind {
+        Kind::Road | Kind::Point => true,
+        Kind::Alias | Kind::RoadRetirement | Kind::PointRetirement => false,
+    }
 }
 
 fn is_no_time(effective: &[u8], expire: &[u8]) -> bool

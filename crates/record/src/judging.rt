@@ -1,47 +1,45 @@
 // Whether a field of a body is at fault, by what its name asks of its text.
-ghost use Rattle.std.specs.Prelude.{◌≡◌, ◌||◌, is_some};
+ghost use Rattle.std.specs.Prelude.{◌≡◌, ◌^◌, ◌<◌, is_some};
 ghost use Rattle.text.specs.Nguids.{read_nguid};
-ghost use Rattle.record.specs.Judging.{has_form, faulty_text, ordinal, blames, reading_of, misread};
+ghost use Rattle.record.specs.Judging.{has_form, faulty_text, ordinal, blames, reading_from, misread, faulty_as};
 
-use crate::named::text_named;
-use crate::{FieldName, Side};
-use delivery::{Body, Kind};
+use crate::FieldName;
+use crate::walking::text_at;
+use delivery::Body;
 use instant::Instant;
 use territory::{Numbering, NumberingText};
 use text::{Layer, Nguid};
 
-pub(crate) fn is_faulty<N: Numbering>(kind: Kind, name: FieldName, text: &[u8], body: Body) -> bool
-    ensures { result ≡ (faulty_text name text.now || misread N.Numbering kind name body.entry.bytes.now) }
+pub(crate) fn is_faulty<N: Numbering>(name: FieldName, body: Body, index: usize) -> bool
+    requires { index < 2 ^ 32 }
+    ensures { result ≡ faulty_as N.Numbering name body.entry.bytes.now index }
 {
-    is_faulty_text(name, text) || is_misread::<N>(kind, name, body)
+    is_faulty_text(name, text_at(body, index)) || is_misread::<N>(name, body, index)
 }
 
 // What the numbering finds at fault.
-fn is_misread<N: Numbering>(kind: Kind, name: FieldName, body: Body) -> bool
-    ensures { result ≡ misread N.Numbering kind name body.entry.bytes.now }
+fn is_misread<N: Numbering>(name: FieldName, body: Body, index: usize) -> bool
+    requires { index < 2 ^ 32 }
+    ensures { result ≡ misread N.Numbering name body.entry.bytes.now index }
 {
     match name {
-        FieldName::Numbering(side, which) => blames::<N>(which, read_side::<N>(kind, body, side)),
-        FieldName::Place => N::read_place(text_named(kind, body, FieldName::Place)).is_none(),
+        FieldName::Numbering(_, which) => {
+            let reading = read_from::<N>(body, index.saturating_sub(ordinal(which)));
+            blames::<N>(which, reading)
+        }
+        FieldName::Place => N::read_place(text_at(body, index)).is_none(),
         _ => false,
     }
 }
 
-pub(crate) fn read_side<N: Numbering>(
-    kind: Kind,
-    body: Body,
-    side: Side,
-) -> Result<N, NumberingText>
-    ensures { result ≡ reading_of N.Numbering kind body.entry.bytes.now side }
+pub(crate) fn read_from<N: Numbering>(body: Body, first: usize) -> Result<N, NumberingText>
+    requires { first < 2 ^ 32 }
+    ensures { result ≡ reading_from N.Numbering body.entry.bytes.now first }
 {
     N::read(
-        text_named(kind, body, FieldName::Numbering(side, NumberingText::First)),
-        text_named(
-            kind,
-            body,
-            FieldName::Numbering(side, NumberingText::Second),
-        ),
-        text_named(kind, body, FieldName::Numbering(side, NumberingText::Third)),
+        text_at(body, first),
+        text_at(body, first + 1),
+        text_at(body, first + 2),
     )
 }
 

@@ -1,5 +1,5 @@
 // The fields of each kind of body, in their order.
-ghost use Rattle.std.specs.Prelude.{◌≡◌, ◌^◌, ◌<◌, length};
+ghost use Rattle.std.specs.Prelude.{◌≡◌};
 ghost use Rattle.record.specs.Layouts.{layout};
 
 use crate::{FieldName, Side};
@@ -78,8 +78,7 @@ const POINT_RETIREMENT: [FieldName; 2] = [
 ];
 
 pub(crate) fn layout(kind: Kind) -> &'static [FieldName]
-    ensures names { result.now ≡ layout kind }
-    ensures few { length result.now < 2 ^ 32 }
+    ensures { result.now ≡ layout kind }
 {
     match kind {
         Kind::Road => &ROAD,

@@ -5,8 +5,6 @@ mod checking;
 mod field_names;
 mod judging;
 mod layouts;
-mod named;
-mod naming;
 mod records;
 mod refusals;
 mod walking;

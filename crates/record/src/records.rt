@@ -1,19 +1,24 @@
 // Bodies that passed the checks of their kind.
-ghost use Rattle.std.specs.Prelude.{◌≡◌, None, OnOk};
+ghost use Rattle.std.specs.Prelude.{◌≡◌, ◌^◌, ◌<◌, None, OnOk};
 ghost use Rattle.std.specs.Result.{result_err};
+ghost use Rattle.instant.specs.Reading.{instant_in};
 ghost use Rattle.delivery.specs.Opened.{body_part};
+ghost use Rattle.record.specs.Bodies.{field_text};
 ghost use Rattle.record.specs.Checking.{refusal_of};
+ghost use Rattle.record.specs.Judging.{reading_from};
+ghost use Rattle.record.specs.Layouts.{numbering_field, place_field, NumberingStands, PlaceStands};
 ghost use Rattle.record.specs.Laid.{Laid};
-ghost use Rattle.record.specs.Passing.{accepted_part, passing, LeftToNumbering, Passes};
+ghost use Rattle.record.specs.Passing.{accepted_part, passing, Passes};
 ghost use Rattle.record.specs.Rules.{RefusedRightly, fields_of};
 
 use crate::checking::refusal;
-use crate::{BodyKind, BodyRefusal};
+use crate::judging::read_from;
+use crate::walking::text_at;
+use crate::{BodyKind, BodyRefusal, PointBody, RoadBody, Side};
 use delivery::Body;
+use instant::Instant;
 use std::marker::PhantomData;
-use territory::Numbering;
-
-mod parts;
+use territory::{Numbering, NumberingText};
 
 /// A body that passed the checks of its kind; only `check` makes one.
 #[derive(Drop)]
@@ -45,12 +50,51 @@ fn answer<'a, N: Numbering, K: BodyKind>(body: Body<'a>) -> Result<Checked<'a, K
     }
 }
 
-impl<'a, K: BodyKind> Checked<'a, K> {
-    /// The first reason for which the body is refused by another numbering, if any; by its own, there is none.
-    pub fn refusal<N: Numbering>(&self) -> Option<BodyRefusal>
-        ensures value { result ≡ refusal_of N.Numbering K.BodyKind.kind (body_part self.now.body) }
-        ensures left { LeftToNumbering K.BodyKind.kind (body_part self.now.body) result }
+impl<'a, K> Checked<'a, K> {
+    /// The text of a field by its number in the layout of the kind, from 0; empty where there is no such field.
+    pub fn text(&self, index: usize) -> &'a [u8]
+        ensures { result.now ≡ field_text self.now.body.bytes.now index }
     {
-        refusal::<N>(K::kind(), self.body)
+        text_at(self.body, index)
+    }
+
+    /// The instant that a field tells, if it tells one: a DateUpdate, or a retirement's instant.
+    pub fn instant(&self, index: usize) -> Option<Instant>
+        ensures { result ≡ instant_in (field_text self.now.body.bytes.now index) }
+    {
+        Instant::read(self.text(index))
+    }
+}
+
+impl<'a> Checked<'a, RoadBody> {
+    /// The numbering of a side.
+    pub fn numbering<N: Numbering>(&self, side: Side) -> Result<N, NumberingText>
+        ensures { result ≡ reading_from N.Numbering self.now.body.bytes.now (numbering_field side) }
+    {
+        read_from::<N>(self.body, numbering_field(side))
+    }
+}
+
+impl<'a> Checked<'a, PointBody> {
+    /// The place of the point.
+    pub fn place<N: Numbering>(&self) -> Option<N::Point>
+        ensures stands { PlaceStands }
+        ensures value { result ≡ N.Numbering.place (field_text self.now.body.bytes.now place_field) }
+    {
+        N::read_place(text_at(self.body, PLACE_FIELD))
+    }
+}
+
+const PLACE_FIELD: usize = 13;
+
+// Where the three numbering texts of a side begin.
+fn numbering_field(side: Side) -> usize
+    ensures value { result ≡ numbering_field side }
+    ensures low { result < 2 ^ 32 }
+    ensures stands { NumberingStands side result }
+{
+    match side {
+        Side::Left => 12,
+        Side::Right => 18,
     }
 }

@@ -1,26 +1,31 @@
-use Rattle.std.proofs.Common.{◌≡◌, ◌<◌, ◌≤◌, true, false, ◌∙◌, rules}
-use Rattle.promise.proofs.Firsts.{first_goes}
+use Rattle.std.proofs.Common.{◌≡◌, ◌+◌, ◌-◌, length, Some, sym, ap, ◌∙◌, arith}
+use Rattle.std.specs.Option.{option_map}
+use Rattle.promise.specs.First.{first_from}
+use Rattle.promise.proofs.Firsts.{first_stops, first_goes, first_ends}
 use Rattle.delivery.specs.Opened.{body_part}
-use Rattle.record.specs.Judging.{faulty}
-use Rattle.record.specs.Named.{field_count}
-use Rattle.record.proofs.Faults.{fault_found, no_fault}
+use Rattle.record.specs.Checking.{faulty, fault_told}
+use Rattle.record.specs.declared.refusals.BodyRefusal.TheVariants.{Field}
 use Rattle.record.proofs.checking.fault.Goals as goal
+
+pub loop-index-init : goal.loop-index-init
+loop-index-init g c =
+    let all : length c.args.names.now ≡ length c.args.names.now - 0 = omega arith in
+    ap (first_from (faulty g.N.Numbering c.args.names.now c.args.body.bytes.now) 0) all
 
 pub loop-index-preserved : goal.loop-index-preserved
 unfolding faulty
 loop-index-preserved g c =
-    let below : c.loop-index.index < field_count c.args.kind = search rules in
-    let good : faulty g.N.Numbering c.args.kind c.args.body.bytes.now c.loop-index.index ≡ false = search rules in
-    c.loop-index.invariant ∙ first_goes (faulty g.N.Numbering c.args.kind c.args.body.bytes.now) c.loop-index.index (field_count c.args.kind) below good
+    c.loop-index.invariant
+    ∙ first_goes (faulty g.N.Numbering c.args.names.now c.args.body.bytes.now) c.loop-index.index (length c.args.names.now) c.loop-index-test.true (sym c.if-is-faulty.ensures)
 
 pub returns-then-is-faulty : goal.returns-then-is-faulty
 unfolding faulty
 returns-then-is-faulty g c =
-    let below : c.loop-index.index < field_count c.args.kind = search rules in
-    let bad : faulty g.N.Numbering c.args.kind c.args.body.bytes.now c.loop-index.index ≡ true = search rules in
-    fault_found (body_part c.args.body) (faulty g.N.Numbering c.args.kind c.args.body.bytes.now) (field_count c.args.kind) c.loop-index.index c.loop-index.invariant c.place-at.result below bad c.place-at.ensures
+    let found = c.loop-index.invariant ∙ first_stops (faulty g.N.Numbering c.args.names.now c.args.body.bytes.now) c.loop-index.index (length c.args.names.now) c.loop-index-test.true (sym c.if-is-faulty.ensures) in
+    ap (λ place. Some (Field (c.loop-index.index + 1) place)) c.place-at.ensures
+    ∙ sym (ap (option_map (fault_told (body_part c.args.body))) found)
 
 pub returns : goal.returns
 returns g c =
-    let past : field_count c.args.kind ≤ c.loop-index.index = search rules in
-    no_fault (body_part c.args.body) (faulty g.N.Numbering c.args.kind c.args.body.bytes.now) (field_count c.args.kind) c.loop-index.index c.loop-index.invariant past
+    let none = c.loop-index.invariant ∙ first_ends (faulty g.N.Numbering c.args.names.now c.args.body.bytes.now) c.loop-index.index (length c.args.names.now) c.loop-index-test.false in
+    sym (ap (option_map (fault_told (body_part c.args.body))) none)
