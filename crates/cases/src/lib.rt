@@ -1,4 +1,6 @@
 // Worked cases of dates, lifetimes, ranges and marks: one list, and the proof that every one of them holds.
+#![tactic(auto)]
+
 ghost use Rattle.std.specs.Prelude.{◌≡◌, length};
 ghost use Rattle.std.specs.List.{AllByRecursion as All};
 ghost use Rattle.cases.specs.Cases.{Told, cases};

@@ -1,5 +1,7 @@
 // A delivery: a table of contents, and the bodies that it lists.
 // Opening one checks the table; an opened delivery gives its entries and their bodies.
+#![tactic(auto)]
+
 mod checks;
 mod contents;
 mod deliveries;

@@ -1,4 +1,6 @@
 // Runs worked examples and edges: reads each line of a table, and compares what is read with what is expected.
+#![tactic(auto)]
+
 mod answers;
 mod numberings;
 mod tables;

@@ -1,4 +1,6 @@
 // Looks at deliveries without a register: prints what each one lists, or why it is refused.
+#![tactic(auto)]
+
 use anyhow::anyhow;
 use inspection::inspect;
 use std::io::Read;

@@ -1,5 +1,7 @@
 // What a delivery lists, as text for a person: a line for each entry and a closing count,
 // or the reason for which the delivery is refused.
+#![tactic(auto)]
+
 ghost use Rattle.std.specs.Prelude.{◌≡◌, IfOk, string_bytes};
 ghost use Rattle.delivery.specs.Opened.{contents};
 ghost use Rattle.inspection.specs.Listing.{kind_name, line_with, given_line, refusal_line, count_line, listing_of, inspected};

@@ -1,5 +1,7 @@
 // A small numbering to learn from: the lots 0 to 9 of a park, from a first to a last one.
 // Its must-fail edits show that the laws of a numbering bite.
+#![tactic(auto)]
+
 ghost use Rattle.std.specs.Prelude.{◌≡◌, ◌&&◌, ◌==◌, nat_le, refl};
 ghost use Rattle.lots.specs.Lots.{lowest_shared, reading_of, lot_of, written_lot};
 ghost use Rattle.std.proofs.Common.{rules, arith};

@@ -1,5 +1,7 @@
 // Ranges and marks: two kinds of numberings whose places are address numbers.
 // Where two of a kind meet, they tell the least number that both hold.
+#![tactic(auto)]
+
 mod hexadecimal;
 mod mark_sets;
 mod parities;

@@ -1,5 +1,5 @@
 -- A reader that answers exactly a form decides whether a text has it. Assumes nothing.
-use Rattle.std.proofs.Common.{◌≡◌, Bool, true, false, not, is_some, Some, None, Decides, Option, sym, refl, ◌∙◌}
+use Rattle.std.proofs.Common.{◌≡◌, Bool, true, false, not, is_some, Some, None, Decides, Option, sym, refl}
 use Rattle.std.proofs.lemmas.Bool.{true≢false, false≢true}
 use Rattle.promise.specs.Exactly.{Exactly}
 

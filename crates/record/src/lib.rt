@@ -1,5 +1,7 @@
 // The bodies of a delivery: the layout of each kind, the checks of its fields with the first reason that applies,
 // and checked bodies, which say by their type what they describe and give their texts, numberings, places and instants.
+#![tactic(auto)]
+
 mod body_kinds;
 mod checking;
 mod field_names;

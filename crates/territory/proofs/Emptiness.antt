@@ -1,5 +1,5 @@
 -- A territory that shares nothing with itself holds nothing. Assumes nothing.
-use Rattle.std.proofs.Common.{◌≡◌, Bool, true, false, not, is_some, Some, None, Decides, Option, sym, refl, ◌∙◌, ⊎_elim}
+use Rattle.std.proofs.Common.{◌≡◌, Bool, not, is_some, Some, None, Decides, Option, sym, refl, ◌∙◌, ⊎_elim}
 use Rattle.std.proofs.lemmas.Bool.{true≢false, false≢true, cases_Bool}
 use Rattle.territory.specs.Meaning.{Lawful, HoldsNothing}
 

@@ -3,6 +3,7 @@ pub mod Order
 pub mod Meaning
 pub mod Pairs
 pub mod Places
+pub mod Seen
 pub mod Singles
 pub mod Stretches
 pub mod Numbered

@@ -1,6 +1,6 @@
 -- Values that are told apart by a number are in a total order. Assumes nothing.
-use Rattle.std.specs.Prelude.{◌≡◌, ℕ, ◌<◌, Bool, true, false, ltb, ◌==◌, nat_eq, nat_lt}
-use Rattle.std.proofs.Common.{sym, ⊎_elim, arith}
+use Rattle.std.specs.Prelude.{ℕ, ltb, ◌==◌, nat_eq, nat_lt}
+use Rattle.std.proofs.Common.{⊎_elim, arith}
 use Rattle.std.proofs.lemmas.Bool.{cases_order, ltb-true, eqb-true, lt-ltb, le-ltb, eq-eqb, ne_eqb}
 use Rattle.territory.specs.Order.{OneOf, only_first, only_second, only_third, Total}
 

@@ -1,6 +1,6 @@
 -- A pair of two territories is a territory. Assumes nothing.
 use Rattle.std.specs.Prelude.{◌≡◌, Bool, true, false, ◌&&◌, Some, None, Option, ◌≢◌, refl}
-use Rattle.std.proofs.Common.{sym, ap, ◌∙◌}
+use Rattle.std.proofs.Common.{ap}
 use Rattle.std.proofs.lemmas.Bool.{true≢false, and_parts, and_from}
 use Rattle.territory.specs.Meaning.{Equivalence, Lawful}
 use Rattle.territory.specs.Pairs.{both_told}

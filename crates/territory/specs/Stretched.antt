@@ -1,7 +1,7 @@
 -- A stretch over a total order is a territory. Assumes nothing.
-use Rattle.std.specs.Prelude.{◌≡◌, Bool, true, false, cond, not, ◌&&◌, Some, None, Option, refl}
-use Rattle.std.proofs.Common.{sym, ◌∙◌, ⊎_elim}
-use Rattle.std.proofs.lemmas.Bool.{true≢false, cases_Bool, and_parts, and_from, not-true, not_from_false, cond_both}
+use Rattle.std.specs.Prelude.{◌≡◌, Bool, true, false, cond, Some, None, refl}
+use Rattle.std.proofs.Common.{sym, ◌∙◌}
+use Rattle.std.proofs.lemmas.Bool.{true≢false, and_parts, and_from, not-true, not_from_false, cond_both}
 use Rattle.territory.specs.Order.{Total}
 use Rattle.territory.specs.Meaning.{Lawful}
 use Rattle.territory.specs.Stretches.{lies_within, later, earlier, meeting}

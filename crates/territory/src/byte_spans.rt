@@ -4,7 +4,9 @@ ghost use Rattle.std.specs.Option.{option_map};
 ghost use Rattle.territory.specs.BytePlaces.{byte_place, place_before, place_level};
 ghost use Rattle.territory.specs.Singles.{told_if};
 ghost use Rattle.territory.specs.Stretches.{from_to, lies_within, meeting};
-ghost use Rattle.std.proofs.Common.{rules, arith};
+ghost use Rattle.territory.specs.Numbered.{by_number};
+ghost use Rattle.territory.specs.Seen.{lawful_through};
+ghost use Rattle.territory.specs.Stretched.{stretch_lawful};
 
 use crate::{Bound, BytePlace, Stretch, Territory};
 
@@ -70,7 +72,7 @@ impl Territory for ByteSpan {
 
     ghost common = { λ s t. meeting place_before s.first s.end t.first t.end };
 
-    ghost lawful = { first_of (Prim.search rules, Prim.grind (arith, Self.row.coded.inj)) };
+    ghost lawful = { lawful_through (λ s. from_to s.first s.end) (stretch_lawful (by_number (λ p. p.at))) };
 
     fn holds(&self, point: BytePlace) -> bool {
         self.stretch().holds(point)

@@ -1,5 +1,7 @@
 // What a set of points is: the traits `Territory`, `Bound` and `Numbering` with their laws,
 // and the kinds that every later crate builds from: stretches over any bound, singles, pairs.
+#![tactic(auto)]
+
 mod bounds;
 mod byte_places;
 mod byte_spans;

@@ -44,13 +44,13 @@ impl<B: Bound> Territory for Stretch<B> {
 
 // The first one where they are level.
 fn later_of<B: Bound>(a: B, b: B) -> B
-    ensures { result ≡ later before a b }
+    ensures { result ≡ later B.before a b }
 {
     if a.precedes(b) { b } else { a }
 }
 
 fn earlier_of<B: Bound>(a: B, b: B) -> B
-    ensures { result ≡ earlier before a b }
+    ensures { result ≡ earlier B.before a b }
 {
     if b.precedes(a) { b } else { a }
 }

@@ -1,6 +1,7 @@
 // The texts of fields, each accepted exactly when its form allows: address numbers, NGUIDs,
 // and plain texts with their widths and the eight directions. Full names are joined from
 // their elements, and texts are compared byte for byte.
+#![tactic(auto)]
 
 mod address_number;
 mod bytes;

@@ -5,5 +5,5 @@ use Rattle.territory.proofs.territories.Territory.is_empty.Goals as goal
 
 pub returns : goal.returns
 returns g c =
-    let value = c.is-untold.ensures ∙ ap (λ o. not (is_some o)) c.common.ensures in
+    let value = c.is_untold.ensures ∙ ap (λ o. not (is_some o)) c.common.ensures in
     record { value = value; meaning = Decides-at _ _ value (shares_nothing g.met.Self.Territory.lawful _) }
