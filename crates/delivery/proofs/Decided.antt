@@ -1,10 +1,9 @@
 -- Each test of the checks decides its rule. Assumes nothing.
-use Rattle.std.proofs.Common.{◌≡◌, ℕ, ◌<◌, ◌≤◌, Bool, true, false, not, ◌⊎◌, List, is_some, Some, None, Decides, Option, sym, refl, ◌∙◌, subst, ⊎_elim, arith, rules}
+use Rattle.std.proofs.Common.{◌≡◌, ℕ, true, false, not, ◌⊎◌, List, is_some, Some, None, Decides, Option, sym, refl, ◌∙◌, subst, arith}
 use Rattle.std.proofs.lemmas.Bool.{true≢false, false≢true}
 use Rattle.std.proofs.lemmas.Bool.Decides.{Decides-or, Decides-ltb, Decides-like, nat_tests}
 use Rattle.promise.specs.Exactly.{Exactly}
 use Rattle.promise.proofs.Firsts.{any_decides}
-use Rattle.delivery.specs.Contents.{entry_count, table_end, kind_byte}
 use Rattle.delivery.specs.Kinds.{kind_number, kind_numbered}
 use Rattle.delivery.specs.Opening.{no_table, bad_entry, shares_earlier, share_a_byte}
 use Rattle.delivery.specs.Rules.{LacksTable, OtherKind, Misplaced, SharesEarlier}

@@ -1,5 +1,5 @@
 -- The reason given is the first that applies, and an opened delivery keeps its bodies apart. Assumes nothing.
-use Rattle.std.proofs.Common.{◌≡◌, ℕ, ◌+◌, ◌<◌, ◌≤◌, Bool, true, false, cond, ◌⊎◌, List, length, is_some, IfOk, Some, None, Ok, Err, Option, Result, sym, refl, ap, ◌∙◌, subst, inl, inr, ⊎_elim, arith}
+use Rattle.std.proofs.Common.{◌≡◌, ℕ, ◌+◌, ◌<◌, ◌≤◌, Bool, true, false, cond, List, length, is_some, IfOk, Some, None, Ok, Err, Option, Result, sym, refl, ap, ◌∙◌, subst, inl, inr, ⊎_elim, arith}
 use Rattle.std.proofs.lemmas.Bool.{true≢false, cases_Bool, cases_lt, cases_order, lt-ltb, le-leb, not_from_false}
 use Rattle.std.proofs.lemmas.Bool.Decides.{not_from_Decides}
 use Rattle.std.specs.Option.{option_map, option_or}
@@ -7,7 +7,7 @@ use Rattle.std.specs.Result.{result_err, result_map_both as mapped-result}
 use Rattle.promise.specs.First.{first_below}
 use Rattle.promise.specs.Reasons.{ListedBefore}
 use Rattle.promise.proofs.Firsts.{first_found, none_found}
-use Rattle.delivery.specs.Contents.{entry_count, table_end, kind_byte, body_place, body_end}
+use Rattle.delivery.specs.Contents.{entry_count, table_end, kind_byte, body_end}
 use Rattle.delivery.specs.Kinds.{kind_numbered}
 use Rattle.delivery.specs.Opened.{contents, opening, unless_refused, GivesAll}
 use Rattle.delivery.specs.Opening.{most_bytes, no_table, bad_entry, shares_earlier, refusal_of}

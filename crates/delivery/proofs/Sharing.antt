@@ -1,6 +1,6 @@
 -- A body shares a byte with an earlier one exactly when one of its bytes is taken. Assumes nothing.
-use Rattle.std.proofs.Common.{◌≡◌, ℕ, ◌+◌, ◌<◌, ◌≤◌, Bool, true, false, not, ◌&&◌, ◌||◌, ltb, List, get_or, is_some, Some, None, Decides, Option, sym, refl, ap, ◌∙◌, subst, ⊎_elim, arith}
-use Rattle.std.proofs.lemmas.Bool.{true≢false, false≢true, cases_Bool, and_parts, and_from, not-true, not_from_true, not_from_false, ltb-true, ltb-false, lt-ltb, le-ltb}
+use Rattle.std.proofs.Common.{◌≡◌, ℕ, ◌+◌, ◌<◌, ◌≤◌, Bool, true, false, not, ◌||◌, List, get_or, is_some, Some, None, Decides, Option, sym, refl, ap, ◌∙◌, ⊎_elim}
+use Rattle.std.proofs.lemmas.Bool.{true≢false, false≢true, cases_Bool, and_parts, and_from, not-true, not_from_false, ltb-true, ltb-false, lt-ltb, le-ltb}
 use Rattle.promise.specs.First.{any_below}
 use Rattle.promise.proofs.Firsts.{any_decides, any_none, any_more}
 use Rattle.territory.specs.BytePlaces.{byte_place, place_before, place_level}

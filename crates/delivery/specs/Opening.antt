@@ -1,5 +1,5 @@
 -- When a delivery is opened, and for which reason it is refused. Assumes nothing.
-use Rattle.std.specs.Prelude.{ℕ, Bool, cond, not, ◌||◌, List, length, is_some, Some, None, Option, nat_lt}
+use Rattle.std.specs.Prelude.{ℕ, Bool, cond, not, ◌||◌, List, length, is_some, Some, Option, nat_lt}
 use Rattle.std.specs.Option.{option_map, option_or}
 use Rattle.promise.specs.First.{first_below, any_below}
 use Rattle.territory.specs.BytePlaces.{byte_place, place_before}

@@ -1,10 +1,11 @@
 // The instants from an Effective up to, without, an Expire.
-
 ghost use Rattle.std.specs.Prelude.{◌≡◌, ◌≤ℤ◌};
 ghost use Rattle.std.specs.Option.{option_map};
 ghost use Rattle.territory.specs.Stretches.{from_to, lies_within, meeting};
 ghost use Rattle.instant.specs.Instants.{instant_before, instant_level, lifetime_from};
-ghost use Rattle.std.proofs.Common.{rules, arith};
+ghost use Rattle.territory.specs.Seen.{lawful_through};
+ghost use Rattle.territory.specs.Stretched.{stretch_lawful};
+ghost use Rattle.instant.specs.InOrder.{instants_total};
 
 use crate::Instant;
 use territory::{Bound, Stretch, Territory};
@@ -60,7 +61,7 @@ impl Territory for Lifetime {
 
     ghost common = { λ t u. meeting instant_before t.effective t.expire u.effective u.expire };
 
-    ghost lawful = { first_of (Prim.search rules, Prim.grind (arith, Self.row.coded.inj)) };
+    ghost lawful = { lawful_through (λ t. from_to t.effective t.expire) (stretch_lawful instants_total) };
 
     fn holds(&self, point: Instant) -> bool {
         self.stretch().holds(point)

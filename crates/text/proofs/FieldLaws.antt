@@ -1,13 +1,12 @@
 -- The test of a field's text decides its form.
-use Rattle.std.proofs.Common.{◌≡◌, ℕ, ◌+◌, ◌-◌, ◌≤◌, Bool, true, false, not, ◌||◌, eqb, leb, ◌≢◌, List, [], ◌∷◌, ◌++◌, length, get_or, take, Decides, sym, refl, ap, ◌∙◌, arith}
+use Rattle.std.proofs.Common.{◌≡◌, ℕ, ◌+◌, ◌-◌, Bool, true, false, not, ◌||◌, eqb, List, [], ◌∷◌, ◌++◌, length, get_or, take, Decides, sym, refl, ap, ◌∙◌, arith}
 use Rattle.std.specs.List.{ContainsAt as Has}
 use Rattle.std.proofs.lemmas.List.{get_or_push, length_push, nil_from_length, take_all, take_more}
 use Rattle.std.proofs.lemmas.Bool.{eq-eqb, eqb-true, false≢true, le-leb, leb-true}
-use Rattle.std.proofs.lemmas.Bool.Decides.{Decides-and, Decides-by_or, Decides-eqb, Decides-like, Decides-or, Decides-not, nat_tests}
+use Rattle.std.proofs.lemmas.Bool.Decides.{Decides-and, Decides-by_or, Decides-like, Decides-or, Decides-not}
 use Rattle.text.proofs.ByteLaws.{every_byte_decides, same_bytes_decides}
 use Rattle.text.specs.Bytes.{same_bytes}
-use Rattle.text.specs.FieldText.{FieldText, directions, is_directional, is_field_text, one_of}
-use Rattle.text.specs.Widths.{width_of}
+use Rattle.text.specs.FieldText.{FieldText, directions, is_field_text, one_of}
 use Rattle.text.specs.declared.bytes.Alphabet.TheVariants.{Printable}
 use Rattle.text.specs.declared.field_text.TextField.{TextField}
 

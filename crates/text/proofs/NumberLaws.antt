@@ -1,18 +1,18 @@
 -- Reading address numbers answers exactly their form, and reads back what is written.
-use Rattle.std.proofs.Common.{◌≡◌, ℕ, ◌+◌, ◌-◌, ◌<◌, ◌≤◌, true, cond, ◌&&◌, ◌≢◌, ◌⊎◌, List, [], ◌∷◌, length, Some, None, decimal, Option, sym, refl, ap, ◌∙◌, inl, inr, arith, rules}
+use Rattle.std.proofs.Common.{◌≡◌, ℕ, ◌+◌, ◌-◌, ◌≤◌, true, ◌≢◌, ◌⊎◌, List, [], ◌∷◌, length, Some, None, decimal, Option, sym, refl, ap, inl, inr, arith, rules}
 use Rattle.std.proofs.lemmas.List.{length-map}
 use native.Mathlib.Nat.{pow-le-pow_right}
 use Rattle.std.specs.Int.Digits.{number_from_digits, number_from_digits_after, AllBelowBase}
 use Rattle.std.specs.Str.{all_ascii_digits}
 use Rattle.std.specs.Char.{is_ascii_digit}
-use Rattle.std.proofs.lemmas.Bool.{and_parts, and_from, cond-true, cases_lt}
+use Rattle.std.proofs.lemmas.Bool.{and_parts, and_from, cases_lt}
 use Rattle.std.proofs.lemmas.Bool.Decides.{nat_tests}
 use Rattle.std.proofs.lemmas.Fmt.{length-decimal-le, decimal_nonempty, first_decimal, decimal_digit, digits_decimal, digits_value-decimal}
 use Rattle.std.proofs.lemmas.Int.Digits.{number_lt}
 use Rattle.std.proofs.lemmas.Str.Parse.{IsNumeralModel, numerals_by_fold, tells_all_ascii_digits}
 use Rattle.promise.specs.Exactly.{Exactly}
 use Rattle.text.proofs.Inversions.{cond_apart, mapped_apart, none_some}
-use Rattle.text.specs.AddressNumber.{NotPast, NumberText, ReadsBack, digits_of, digits_value, greatest_number, most_digits, read_number, spelled, well_begun, written_number}
+use Rattle.text.specs.AddressNumber.{NotPast, NumberText, ReadsBack, digits_of, digits_value, greatest_number, most_digits, read_number, spelled, well_begun}
 use Rattle.text.specs.declared.address_number.AddressNumber.{AddressNumber}
 
 under_digits : (text : List ℕ) → all_ascii_digits text ≡ true → AllBelowBase 10 (digits_of text)

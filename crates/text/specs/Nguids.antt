@@ -1,6 +1,5 @@
 -- NGUIDs: "urn:emergency:uid:gis:", a layer, a colon, a local identifier, a colon, an agency. Assumes nothing.
 use Rattle.std.specs.Prelude.{◌≡◌, ℕ, ◌<◌, ◌≤◌, Bool, cond, ◌&&◌, List, [], ◌∷◌, ◌++◌, length, Some, None, codes, Option, ◌==◌, nat_le, nat_lt}
-use Rattle.std.specs.Option.{option_map}
 use Rattle.std.specs.List.{AllByRecursion as All}
 use Rattle.text.specs.Bytes.{Allowed, every_byte}
 use Rattle.text.specs.Widths.{nguid_width}

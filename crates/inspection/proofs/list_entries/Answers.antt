@@ -16,5 +16,5 @@ loop-number-init c = c.new-text.ensures.bytes
 
 pub loop-number-preserved : goal.loop-number-preserved
 loop-number-preserved c =
-    let line = c.as-str.ensures.value ∙ c.in-ok-line.ensures ∙ ap (given_line c.loop-number.number) c.entry.ensures in
-    one_line_more _ _ _ _ line (pushed _ c.loop-number.invariant c.in-ok-push-str.was c.push-str.ensures.bytes)
+    let line = c.as_str.ensures.value ∙ c.in_ok-line.ensures ∙ ap (given_line c.loop-number.number) c.entry.ensures in
+    one_line_more _ _ _ _ line (pushed _ c.loop-number.invariant c.in_ok-push_str.was c.push_str.ensures.bytes)

@@ -10,5 +10,5 @@ loop-earlier-init c = refl
 pub loop-earlier-preserved : goal.loop-earlier-preserved
 loop-earlier-preserved c = search (rules, months_more)
 
-pub overflow-add-days : goal.overflow-add-days
-overflow-add-days c = search (rules, days_of_months_le)
+pub overflow_add-days : goal.overflow_add-days
+overflow_add-days c = search (rules, days_of_months_le)

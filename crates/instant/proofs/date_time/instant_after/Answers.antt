@@ -23,4 +23,4 @@ returns-then-begins c =
 pub returns-else-begins : goal.returns-else-begins
 returns-else-begins c =
     let form = sym c.begins.ensures.meaning ∙ c.if-begins.false in
-    c.instant-at-else-begins.ensures ∙ without_fraction c.args.seconds _ c.args.rest.now form (omega (arith, ints))
+    c.instant_at-else-begins.ensures ∙ without_fraction c.args.seconds _ c.args.rest.now form (omega (arith, ints))

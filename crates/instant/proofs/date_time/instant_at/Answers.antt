@@ -10,6 +10,6 @@ made tenths = Some (record { tenths = tenths })
 pub returns : goal.returns
 unfolding made
 returns c =
-    let zone = sym c.in-ok-ahead.ensures in
-    let near = zone_near c.args.zone.now c.in-ok-ahead.ahead zone in
+    let zone = sym c.in_ok-ahead.ensures in
+    let near = zone_near c.args.zone.now c.in_ok-ahead.ahead zone in
     rw zone (ap made (omega (arith, ints)))

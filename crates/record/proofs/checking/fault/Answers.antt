@@ -16,13 +16,13 @@ pub loop-index-preserved : goal.loop-index-preserved
 unfolding faulty
 loop-index-preserved g c =
     c.loop-index.invariant
-    ∙ first_goes (faulty g.N.Numbering c.args.names.now c.args.body.bytes.now) c.loop-index.index (length c.args.names.now) c.loop-index-test.true (sym c.if-is-faulty.ensures)
+    ∙ first_goes (faulty g.N.Numbering c.args.names.now c.args.body.bytes.now) c.loop-index.index (length c.args.names.now) c.loop-index-test.true (sym c.if-is_faulty.ensures)
 
-pub returns-then-is-faulty : goal.returns-then-is-faulty
+pub returns-then-is_faulty : goal.returns-then-is_faulty
 unfolding faulty
-returns-then-is-faulty g c =
-    let found = c.loop-index.invariant ∙ first_stops (faulty g.N.Numbering c.args.names.now c.args.body.bytes.now) c.loop-index.index (length c.args.names.now) c.loop-index-test.true (sym c.if-is-faulty.ensures) in
-    ap (λ place. Some (Field (c.loop-index.index + 1) place)) c.place-at.ensures
+returns-then-is_faulty g c =
+    let found = c.loop-index.invariant ∙ first_stops (faulty g.N.Numbering c.args.names.now c.args.body.bytes.now) c.loop-index.index (length c.args.names.now) c.loop-index-test.true (sym c.if-is_faulty.ensures) in
+    ap (λ place. Some (Field (c.loop-index.index + 1) place)) c.place_at.ensures
     ∙ sym (ap (option_map (fault_told (body_part c.args.body))) found)
 
 pub returns : goal.returns

@@ -7,7 +7,7 @@ use Rattle.record.proofs.checking.refusal.Goals as goal
 pub returns : goal.returns
 returns g c =
     let body = body_part c.args.body in
-    let same = c.first-refusal.ensures in
+    let same = c.first_refusal.ensures in
     record {
       value = same;
       rightly = subst (RefusedRightly g.N.Numbering c.args.kind body) (sym same) (refused_rightly g.N.Numbering c.args.kind body);

@@ -23,5 +23,5 @@ loop-passed-preserved c =
 pub returns : goal.returns
 returns c =
     let last = broken_last (body_part c.loop-passed.reader.body) c.loop-passed.reader.at c.loop-passed.passed c.args.count (omega arith) in
-    let over = c.left-over.ensures in
+    let over = c.left_over.ensures in
     cc

@@ -20,15 +20,15 @@ begun t c =
           record {
             front = [];
             number = rw small (decimal_digit _ w.if-number-lt10.true);
-            count = w.before_is;
-            out = rw w.before_is w.out_is;
+            count = w.before-is;
+            out = rw w.before-is w.out-is;
           }
       | else-number-lt10 w ↦
           record {
             front = decimal (c.args.number / 10);
             number = decimal_step _ w.if-number-lt10.false (omega arith);
-            count = w.before_is ∙ w.put-digits-before.ensures.count;
-            out = rw w.before_is (w.out_is ∙ w.put-digits-before.ensures.writes);
+            count = w.before-is ∙ w.put_digits-before.ensures.count;
+            out = rw w.before-is (w.out-is ∙ w.put_digits-before.ensures.writes);
           }
     ]
 
@@ -41,8 +41,8 @@ few n small = length-decimal-le 10 n (omega arith) (omega arith) (omega arith)
 pub bounds-out-before : goal.bounds-out-before
 bounds-out-before t c = omega (arith, length_number (begun t c), few c.args.number (omega arith))
 
-pub overflow-add-result : goal.overflow-add-result
-overflow-add-result t c = omega (arith, length_number (begun t (goal.at.overflow-add-result t c).Joined-number-lt10), few c.args.number (omega arith))
+pub overflow_add-result : goal.overflow_add-result
+overflow_add-result t c = omega (arith, length_number (begun t (goal.at.overflow_add-result t c).Joined-number-lt10), few c.args.number (omega arith))
 
 last : (n before : ℕ) (was now : List ℕ) → Begun n before was now → before < length was
     → set now before (48 + n % 10) ≡ decimal n ++ drop (before + 1) was

@@ -1,11 +1,11 @@
-use Rattle.std.proofs.Common.{arith, rules}
+use Rattle.std.proofs.Common.{arith}
 use Rattle.std.proofs.lemmas.Bool.Decides.{nat_tests}
 use Rattle.text.specs.AddressNumber.{read_number}
 use Rattle.text.proofs.address_number.read_number.Goals as goal
 
-pub returns-then-is-empty : goal.returns-then-is-empty
+pub returns-then-is_empty : goal.returns-then-is_empty
 unfolding read_number
-returns-then-is-empty c = grind (arith, nat_tests)
+returns-then-is_empty c = grind (arith, nat_tests)
 
 pub returns-then-text-eq48 : goal.returns-then-text-eq48
 unfolding read_number
@@ -15,6 +15,6 @@ pub returns : goal.returns
 unfolding read_number
 returns c = grind (arith, nat_tests)
 
-pub returns-in-err-value : goal.returns-in-err-value
+pub returns-in_err-value : goal.returns-in_err-value
 unfolding read_number
-returns-in-err-value c = grind (arith, nat_tests)
+returns-in_err-value c = grind (arith, nat_tests)

@@ -4,7 +4,7 @@ use Rattle.std.proofs.lemmas.Bool.Decides.{nat_tests}
 use Rattle.text.specs.Bytes.{every_byte}
 use Rattle.text.proofs.field_text.is_plain_text.Goals as goal
 
-pub returns-then-is-empty : goal.returns-then-is-empty
+pub returns-then-is_empty : goal.returns-then-is_empty
 unfolding every_byte
-returns-then-is-empty c =
+returns-then-is_empty c =
     let empty : c.args.text.now ≡ [] = nil_from_length _ (grind (arith, nat_tests)) in rw empty (grind (arith, nat_tests))

@@ -4,5 +4,5 @@ use Rattle.numbering.proofs.mark_sets.Marks.shared.Goals as goal
 
 pub returns : goal.returns
 returns c =
-    rw (c.bits-from.ensures, c.bits-from-2.ensures)
+    rw (c.bits_from.ensures, c.bits_from-2.ensures)
     (shares c.args.self.now c.args.other.now _ (omega arith) (omega arith) c.max-first.ensures)

@@ -3,6 +3,6 @@ use Rattle.numbering.proofs.mark_sets.MarksNumbering.read.Goals as goal
 
 pub returns : goal.returns
 returns c =
-    let told = c.read-marks.ensures in
+    let told = c.read_marks.ensures in
     let law = marks_told c.args.first.now c.args.bits.now c.args.rest.now in
-    record { value = told; exactly = rw told law.0; at-fault = rw told law.1 }
+    record { value = told; exactly = rw told law.0; at_fault = rw told law.1 }

@@ -3,6 +3,6 @@ use Rattle.numbering.proofs.ranges.RangeNumbering.read.Goals as goal
 
 pub returns : goal.returns
 returns c =
-    let told = c.read-range.ensures in
+    let told = c.read_range.ensures in
     let law = range_told c.args.from.now c.args.to.now c.args.parity.now in
-    record { value = told; exactly = rw told law.0; at-fault = rw told law.1 }
+    record { value = told; exactly = rw told law.0; at_fault = rw told law.1 }

@@ -3,7 +3,7 @@ use Rattle.text.proofs.address_number.AddressNumber.read.Goals as goal
 
 pub returns : goal.returns
 returns c =
-    let told = c.read-number.ensures in
+    let told = c.read_number.ensures in
     let text = c.args.text.now in
     record {
       reads = told;

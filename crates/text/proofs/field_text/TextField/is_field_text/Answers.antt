@@ -3,9 +3,9 @@ use Rattle.std.proofs.lemmas.Bool.Decides.{nat_tests}
 use Rattle.text.specs.FieldText.{is_field_text}
 use Rattle.text.proofs.field_text.TextField.is_field_text.Goals as goal
 
-pub returns-then-not-is-direction : goal.returns-then-not-is-direction
+pub returns-then-not-is_direction : goal.returns-then-not-is_direction
 unfolding is_field_text
-returns-then-not-is-direction c = grind (arith, nat_tests)
+returns-then-not-is_direction c = grind (arith, nat_tests)
 
 pub returns : goal.returns
 unfolding is_field_text

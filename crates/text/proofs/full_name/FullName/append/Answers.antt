@@ -8,6 +8,6 @@ returns c =
     let room : self.length ≤ length self.bytes = omega arith in
     record {
       length = refl;
-      name = rw c.copy-from-slice.ensures.after (put_name _ _ _ _ room);
-      bytes = rw c.copy-from-slice.ensures.after (put_over _ _ _ _ room (omega arith));
+      name = rw c.copy_from_slice.ensures.after (put_name _ _ _ _ room);
+      bytes = rw c.copy_from_slice.ensures.after (put_over _ _ _ _ room (omega arith));
     }

@@ -5,6 +5,6 @@ use Rattle.text.specs.FullNames.{name_of}
 use Rattle.text.proofs.NameLaws.{both_present}
 use Rattle.text.proofs.full_name.FullName.separator.Goals as goal
 
-pub returns-then-not-is-empty : goal.returns-then-not-is-empty
-returns-then-not-is-empty c =
+pub returns-then-not-is_empty : goal.returns-then-not-is_empty
+returns-then-not-is_empty c =
     both_present (name_of c.args.self.now) c.args.element.now (simp length-take (omega arith)) (grind (arith, nat_tests))
