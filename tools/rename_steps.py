@@ -4,7 +4,7 @@ its underscores, and Rattle's own words are joined by them. Run at the top of th
 import os
 import re
 
-WORDS = ["in-ok", "in-err", "In-ok", "In-err", "overflow-add", "overflow-mul", "overflow-sub", "overflow-cast", "overflow-step", "from-residual"]
+WORDS = ["in-ok", "in-err", "In-ok", "In-err", "overflow-add", "overflow-mul", "overflow-sub", "overflow-cast", "overflow-step", "from-residual", "in-default"]
 
 
 def source_names(crate):

@@ -1,5 +1,5 @@
 -- The text that tells a person what a delivery lists. Assumes nothing.
-use Rattle.std.specs.Prelude.{ℕ, zero, suc, List, [], ◌∷◌, ◌++◌, Some, None, Ok, Err, codes, decimal, Option, Result}
+use Rattle.std.specs.Prelude.{ℕ, zero, suc, List, [], ◌++◌, Some, None, Ok, Err, codes, decimal, Option, Result}
 use Rattle.delivery.specs.Opened.{Contents, opening, entry_at}
 use Rattle.delivery.specs.Refusals.{refusal_number}
 use Rattle.delivery.specs.declared.deliveries.Entry.{Entry}

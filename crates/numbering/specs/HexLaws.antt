@@ -1,11 +1,11 @@
 -- Hexadecimal texts are read exactly by their digits.
-use Rattle.std.specs.Prelude.{◌≡◌, ℕ, zero, suc, ◌+◌, ◌-◌, ◌*◌, ◌^◌, ◌<◌, ◌≤◌, true, cond, List, [], ◌∷◌, map, length, drop, Some, None, Option, ◌==◌, slice_index, refl}
-use Rattle.std.proofs.Common.{sym, ap, ◌∙◌, pow-suc, add-one, arith, pow_mono}
+use Rattle.std.specs.Prelude.{◌≡◌, ℕ, ◌+◌, ◌*◌, ◌^◌, ◌<◌, ◌≤◌, List, [], ◌∷◌, map, length, drop, Some, ◌==◌, slice_index, refl}
+use Rattle.std.proofs.Common.{sym, ap, ◌∙◌, arith}
 use Rattle.std.proofs.Math.Nat.{pow-le-pow_right}
 use Rattle.std.proofs.lemmas.List.{drop_all, drop_more, length-map}
 use Rattle.std.proofs.lemmas.Bool.{cond-true, eq-eqb, eqb-true}
 use Rattle.std.proofs.lemmas.Bool.Decides.{nat_tests}
-use Rattle.std.specs.Int.Digits.{number_from_digits, number_from_digits_after, AllBelowBase}
+use Rattle.std.specs.Int.Digits.{number_from_digits_after, AllBelowBase}
 use Rattle.promise.specs.Exactly.{Exactly}
 use Rattle.text.specs.Nguids.{next}
 use Rattle.text.proofs.Inversions.{cond_apart, next_apart, same_some}

@@ -1,10 +1,10 @@
 -- A parity is read exactly from its letter, and agrees with the ends that the rules allow.
-use Rattle.std.specs.Prelude.{◌≡◌, ℕ, Bool, true, false, cond, eqb, List, [], ◌∷◌, Some, None, Decides, Option, refl}
-use Rattle.std.proofs.Common.{sym, ap, ◌∙◌, inl, inr, arith}
+use Rattle.std.specs.Prelude.{◌≡◌, ℕ, List, [], ◌∷◌, Some, Decides, refl}
+use Rattle.std.proofs.Common.{arith}
 use Rattle.std.proofs.lemmas.Bool.Decides.{nat_tests}
 use Rattle.promise.specs.Exactly.{Exactly}
 use Rattle.text.proofs.Inversions.{none_some}
-use Rattle.numbering.specs.Parities.{Agrees, agrees, letter, lettered, parity_of}
+use Rattle.numbering.specs.Parities.{Agrees, agrees, letter, parity_of}
 use Rattle.numbering.specs.declared.parities.Parity.{Parity}
 use Rattle.numbering.specs.declared.parities.Parity.TheVariants.{Odd, Even, Both, Neither}
 

@@ -8,7 +8,7 @@ use Rattle.text.specs.AddressNumber.{NumberText, read_number}
 use Rattle.text.specs.declared.address_number.AddressNumber.{AddressNumber}
 use Rattle.text.proofs.Inversions.{cond_apart, next_apart, same_some}
 use Rattle.text.proofs.NumberLaws.{number_exactly}
-use Rattle.numbering.specs.Parities.{Agrees, agrees, letter, parity_of}
+use Rattle.numbering.specs.Parities.{agrees, parity_of}
 use Rattle.numbering.specs.Places.{address}
 use Rattle.numbering.specs.Ranges.{RangeFault, RangeTexts, if_agreed, range_between, range_holds, range_past, range_reading}
 use Rattle.numbering.specs.declared.ranges.Range.{Range}

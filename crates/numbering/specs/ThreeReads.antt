@@ -1,6 +1,6 @@
 -- Reading from three texts answers exactly what they say, or the first of them at fault. Assumes nothing.
-use Rattle.std.specs.Prelude.{◌≡◌, ℕ, ◌<◌, Some, None, Option, refl}
-use Rattle.std.proofs.Common.{sym, ap, subst, ◌∙◌, arith}
+use Rattle.std.specs.Prelude.{◌≡◌, Some, None, Option, refl}
+use Rattle.std.proofs.Common.{sym, subst, ◌∙◌, arith}
 use Rattle.std.specs.Option.{ok_or}
 use Rattle.std.specs.Result.{result_err, result_ok}
 use Rattle.promise.specs.Exactly.{Exactly}
@@ -8,7 +8,7 @@ use Rattle.promise.specs.Reasons.{FirstThatApplies}
 use Rattle.territory.specs.declared.numberings.NumberingText.{NumberingText}
 use Rattle.territory.specs.declared.numberings.NumberingText.TheVariants.{First, Second, Third}
 use Rattle.text.proofs.Inversions.{none_some}
-use Rattle.numbering.specs.ThreeTexts.{AtFault, Earlier, FirstAtFault, read_three, text_number}
+use Rattle.numbering.specs.ThreeTexts.{AtFault, Earlier, FirstAtFault, read_three}
 
 module _ {R : Type 0} (Applies : R → Type 0) (Before : R → R → Type 0) where
   told_first : (r : R) → Applies r → ((s : R) → Applies s → Before s r → ⊥) → FirstThatApplies Applies Before (Some r)

@@ -1,10 +1,10 @@
 -- A body that does not break is its fields put together, and one that breaks does so where it is told. Assumes nothing.
-use Rattle.std.proofs.Common.{◌≡◌, ℕ, zero, suc, ◌+◌, ◌-◌, ◌<◌, ◌≤◌, Bool, true, false, cond, ltb, leb, ◌⊎◌, List, [], ◌∷◌, ◌++◌, map, length, get_or, take, drop, Some, None, Option, sym, refl, ap, ◌∙◌, subst, inl, inr, ⊎_elim, append_assoc, arith, length-append, length-drop, take-append-drop, length-take, get_or-drop, drop-drop, drop_at}
+use Rattle.std.proofs.Common.{◌≡◌, ℕ, zero, suc, ◌+◌, ◌-◌, ◌<◌, ◌≤◌, Bool, true, false, cond, ltb, leb, ◌⊎◌, List, [], ◌∷◌, ◌++◌, map, length, get_or, drop, Some, None, Option, sym, refl, ap, ◌∙◌, subst, inl, inr, ⊎_elim, append_assoc, arith, length-append, length-drop, take-append-drop, length-take, get_or-drop, drop-drop, drop_at}
 use Rattle.std.proofs.lemmas.List.{drop_all, drop_more}
 use Rattle.std.proofs.lemmas.Bool.{true≢false, and_parts, and_cases, and_from, and_left, and_right, ltb-true, ltb-false, leb-true, leb-false, lt-ltb, le-ltb, le-leb, lt-leb, cases_lt, cases_Bool, cond-true, cond-false}
 use Rattle.std.specs.List.{range_with_len, flat_map}
 use Rattle.promise.specs.Exactly.{Exactly}
-use Rattle.delivery.specs.Fields.{field_bytes, field_end, field_fits, left_over, place_in}
+use Rattle.delivery.specs.Fields.{field_bytes, field_end, field_fits, place_in}
 use Rattle.delivery.specs.Opened.{Part}
 use Rattle.record.specs.Bodies.{field_start, field_text, broken_at}
 use Rattle.record.specs.Laid.{laid, Laid, first_texts, PassesEnd, Breaks, BreaksAt}

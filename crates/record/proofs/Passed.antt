@@ -1,5 +1,5 @@
 -- What a check answers, and what it tells of a body that passed. Assumes nothing.
-use Rattle.std.proofs.Common.{◌≡◌, ℕ, ◌<◌, Bool, true, false, cond, IfOk, Some, None, Ok, Err, Option, Result, sym, refl, ◌∙◌}
+use Rattle.std.proofs.Common.{◌≡◌, ℕ, Bool, true, false, cond, IfOk, Some, None, Ok, Err, Option, Result, sym, refl}
 use Rattle.std.proofs.lemmas.Bool.{true≢false, or_parts}
 use Rattle.std.specs.Option.{option_map, option_or}
 use Rattle.std.specs.Result.{result_err, result_map_both as mapped-result}

@@ -1,5 +1,5 @@
 -- When a field of a body is at fault. Assumes nothing.
-use Rattle.std.specs.Prelude.{ℕ, ◌+◌, ◌-◌, Bool, true, false, not, ◌&&◌, ◌||◌, List, length, is_some, Ok, Err, Option, Result, ◌==◌}
+use Rattle.std.specs.Prelude.{ℕ, ◌+◌, ◌-◌, Bool, true, false, not, ◌&&◌, ◌||◌, List, length, is_some, Ok, Err, Result, ◌==◌}
 use Rattle.territory.specs.declared.numberings.Numbering.{Ghosts}
 use Rattle.territory.specs.declared.numberings.NumberingText.{NumberingText}
 use Rattle.territory.specs.declared.numberings.NumberingText.TheVariants.{First, Second, Third}

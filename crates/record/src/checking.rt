@@ -16,15 +16,15 @@ use territory::{Bound, Numbering};
 
 /// The first reason for which the body is refused, if any.
 pub fn refusal<N: Numbering>(kind: Kind, body: Body) -> Option<BodyRefusal>
-    ensures value { result ≡ refusal_of N.Numbering kind (body_part body.entry) }
-    ensures rightly { RefusedRightly N.Numbering kind (body_part body.entry) result }
+    ensures value { result ≡ refusal_of N.Numbering.own kind (body_part body.entry) }
+    ensures rightly { RefusedRightly N.Numbering.own kind (body_part body.entry) result }
     ensures whole { result ≡ None → Laid body.entry.bytes.now (fields_of kind body.entry.bytes.now) }
 {
     first_refusal::<N>(kind, body)
 }
 
 fn first_refusal<N: Numbering>(kind: Kind, body: Body) -> Option<BodyRefusal>
-    ensures { result ≡ refusal_of N.Numbering kind (body_part body.entry) }
+    ensures { result ≡ refusal_of N.Numbering.own kind (body_part body.entry) }
 {
     let names = layout(kind);
     if let Some(place) = broken_at(body, names.len()) {
@@ -42,7 +42,7 @@ fn first_refusal<N: Numbering>(kind: Kind, body: Body) -> Option<BodyRefusal>
 // The first field at fault.
 fn fault<N: Numbering>(names: &[FieldName], body: Body) -> Option<BodyRefusal>
     requires { length names.now < 2 ^ 32 }
-    ensures { result ≡ fault_of N.Numbering names.now (body_part body.entry) }
+    ensures { result ≡ fault_of N.Numbering.own names.now (body_part body.entry) }
 {
     for index in 0..names.len() {
         if is_faulty::<N>(names[index], body, index) {

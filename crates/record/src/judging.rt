@@ -12,7 +12,7 @@ use text::{Layer, Nguid};
 
 pub(crate) fn is_faulty<N: Numbering>(name: FieldName, body: Body, index: usize) -> bool
     requires { index < 2 ^ 32 }
-    ensures { result ≡ faulty_as N.Numbering name body.entry.bytes.now index }
+    ensures { result ≡ faulty_as N.Numbering.own name body.entry.bytes.now index }
 {
     is_faulty_text(name, text_at(body, index)) || is_misread::<N>(name, body, index)
 }
@@ -20,7 +20,7 @@ pub(crate) fn is_faulty<N: Numbering>(name: FieldName, body: Body, index: usize)
 // What the numbering finds at fault.
 fn is_misread<N: Numbering>(name: FieldName, body: Body, index: usize) -> bool
     requires { index < 2 ^ 32 }
-    ensures { result ≡ misread N.Numbering name body.entry.bytes.now index }
+    ensures { result ≡ misread N.Numbering.own name body.entry.bytes.now index }
 {
     match name {
         FieldName::Numbering(_, which) => {
@@ -34,7 +34,7 @@ fn is_misread<N: Numbering>(name: FieldName, body: Body, index: usize) -> bool
 
 pub(crate) fn read_from<N: Numbering>(body: Body, first: usize) -> Result<N, NumberingText>
     requires { first < 2 ^ 32 }
-    ensures { result ≡ reading_from N.Numbering body.entry.bytes.now first }
+    ensures { result ≡ reading_from N.Numbering.own body.entry.bytes.now first }
 {
     N::read(
         text_at(body, first),

@@ -29,9 +29,9 @@ pub struct Checked<'a, K> {
 
 /// Checks a body of the kind, and refuses it with the first reason that applies.
 pub fn check<'a, N: Numbering, K: BodyKind>(body: Body<'a>) -> Result<Checked<'a, K>, BodyRefusal>
-    ensures value { accepted_part (λ c. body_part c.body) result ≡ passing N.Numbering K.BodyKind.kind (body_part body.entry) }
-    ensures rightly { RefusedRightly N.Numbering K.BodyKind.kind (body_part body.entry) (result_err result) }
-    ensures unrefused { OnOk result (refusal_of N.Numbering K.BodyKind.kind (body_part body.entry) ≡ None) }
+    ensures value { accepted_part (λ c. body_part c.body) result ≡ passing N.Numbering.own K.BodyKind.kind (body_part body.entry) }
+    ensures rightly { RefusedRightly N.Numbering.own K.BodyKind.kind (body_part body.entry) (result_err result) }
+    ensures unrefused { OnOk result (refusal_of N.Numbering.own K.BodyKind.kind (body_part body.entry) ≡ None) }
     ensures laid { OnOk result (Laid body.entry.bytes.now (fields_of K.BodyKind.kind body.entry.bytes.now)) }
     ensures passes { OnOk result (Passes K.BodyKind.kind (body_part body.entry)) }
 {
@@ -39,7 +39,7 @@ pub fn check<'a, N: Numbering, K: BodyKind>(body: Body<'a>) -> Result<Checked<'a
 }
 
 fn answer<'a, N: Numbering, K: BodyKind>(body: Body<'a>) -> Result<Checked<'a, K>, BodyRefusal>
-    ensures { accepted_part (λ c. body_part c.body) result ≡ passing N.Numbering K.BodyKind.kind (body_part body.entry) }
+    ensures { accepted_part (λ c. body_part c.body) result ≡ passing N.Numbering.own K.BodyKind.kind (body_part body.entry) }
 {
     match refusal::<N>(K::kind(), body) {
         Some(refusal) => Err(refusal),
@@ -69,7 +69,7 @@ impl<'a, K> Checked<'a, K> {
 impl<'a> Checked<'a, RoadBody> {
     /// The numbering of a side.
     pub fn numbering<N: Numbering>(&self, side: Side) -> Result<N, NumberingText>
-        ensures { result ≡ reading_from N.Numbering self.now.body.bytes.now (numbering_field side) }
+        ensures { result ≡ reading_from N.Numbering.own self.now.body.bytes.now (numbering_field side) }
     {
         read_from::<N>(self.body, numbering_field(side))
     }

@@ -1,4 +1,4 @@
-use Rattle.std.proofs.Common.{◌≡◌, ◌<◌, ◌≤◌, refl, ◌∙◌, arith}
+use Rattle.std.proofs.Common.{arith}
 use Rattle.delivery.specs.Opened.{body_part}
 use Rattle.record.proofs.Walks.{handed_out, held_back, broken_here, broken_later, broken_last, past_fitting}
 use Rattle.record.proofs.walking.broken_at.Goals as goal
@@ -13,7 +13,7 @@ returns-in-Err c =
 pub loop-passed-preserved : goal.loop-passed-preserved
 loop-passed-preserved c =
     let body = body_part c.loop-passed.reader.body in
-    let fits = handed_out body c.loop-passed.reader.at _ c.in-default.ensures.value in
+    let fits = handed_out body c.loop-passed.reader.at _ c.in_default.ensures.value in
     let later = broken_later body c.loop-passed.reader.at c.loop-passed.passed c.args.count (omega arith) fits in
     let past = past_fitting body.bytes c.loop-passed.reader.at fits in
     let at = c.field.ensures.after in
