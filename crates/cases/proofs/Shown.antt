@@ -1,5 +1,5 @@
 -- Every worked case holds: all but the touching lifetimes are computed.
-use Rattle.std.proofs.Common.{◌≡◌, ℕ, refl, arith}
+use Rattle.std.proofs.Common.{refl, arith}
 use Rattle.std.proofs.lemmas.Int.{ints}
 use Rattle.std.proofs.lemmas.Bool.Decides.{nat_tests as tests}
 use Rattle.std.specs.List.{AllByRecursion as All}

@@ -1,16 +1,13 @@
 -- Worked cases of the definitions that the code's promises cite. Assumes nothing.
-use Rattle.std.specs.Prelude.{◌≡◌, ℕ, Bool, true, false, List, [], ◌∷◌, ℤ, pos, neg_ℤ, Some, None, Ok, Err, codes, Option, Result}
+use Rattle.std.specs.Prelude.{◌≡◌, ℕ, true, false, List, [], ◌∷◌, ℤ, pos, neg_ℤ, Some, None, Ok, Err, codes, Result}
 use Prim.Native.String.{String}
 use Rattle.territory.specs.Stretches.{meeting}
 use Rattle.territory.specs.declared.numberings.NumberingText.{NumberingText}
-use Rattle.territory.specs.declared.numberings.NumberingText.TheVariants.{First, Second, Third}
-use Rattle.text.specs.declared.address_number.AddressNumber.{AddressNumber}
+use Rattle.territory.specs.declared.numberings.NumberingText.TheVariants.{Third}
 use Rattle.numbering.specs.Least.{least_shared}
 use Rattle.numbering.specs.Marks.{marks_hold, marks_past, marks_reading}
 use Rattle.numbering.specs.Places.{address}
 use Rattle.numbering.specs.Ranges.{range_holds, range_past, range_reading}
-use Rattle.numbering.specs.declared.mark_sets.Marks.{Marks}
-use Rattle.numbering.specs.declared.ranges.Range.{Range}
 use Rattle.instant.specs.Instants.{instant_before}
 use Rattle.instant.specs.Reading.{instant_in}
 use Rattle.instant.specs.declared.date_time.Instant.{Instant}
