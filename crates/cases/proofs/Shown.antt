@@ -1,8 +1,8 @@
 -- Every worked case holds: all but the touching lifetimes are computed.
 use Rattle.std.proofs.Common.{refl, arith}
 use Rattle.std.proofs.lemmas.Int.{ints}
-use Rattle.std.proofs.lemmas.Bool.Decides.{nat_tests as tests}
-use Rattle.std.specs.List.{AllByRecursion as All}
+use Rattle.std.proofs.lemmas.Bool.Decides.{nat_tests}
+use Rattle.std.specs.List.{AllByRecursion}
 use Rattle.promise.specs.First.{first_from}
 use Rattle.text.specs.AddressNumber.{digits_value, read_number}
 use Rattle.numbering.specs.Hexadecimal.{hex_after}
@@ -15,7 +15,7 @@ use Rattle.cases.specs.Cases.{Told, cases, touching_apart}
 touching : Told touching_apart
 touching first touch end = (grind (arith, ints), grind (arith, ints))
 
-pub all_hold : All Told cases
+pub all_hold : AllByRecursion Told cases
 unfolding first_from digits_value read_number hex_after bit_set days_of_months days_of_years has_form instant_in
 all_hold = (
   refl,
@@ -42,7 +42,7 @@ all_hold = (
                       (
                         refl,
                         (
-                          (_, refl, λ n. grind (arith, tests)),
+                          (_, refl, λ n. grind (arith, nat_tests)),
                           ((_, refl, (_, refl, refl)), tt),
                         ),
                       ),

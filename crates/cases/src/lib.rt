@@ -2,13 +2,13 @@
 #![tactic(auto)]
 
 ghost use Rattle.std.specs.Prelude.{◌≡◌, length};
-ghost use Rattle.std.specs.List.{AllByRecursion as All};
+ghost use Rattle.std.specs.List.{AllByRecursion};
 ghost use Rattle.cases.specs.Cases.{Told, cases};
 
 /// Tells how many cases there are.
 pub fn worked_cases_hold() -> usize
     ensures count { result ≡ length cases }
-    ensures hold { All Told cases }
+    ensures hold { AllByRecursion Told cases }
 {
     14
 }

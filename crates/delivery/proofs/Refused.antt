@@ -3,7 +3,7 @@ use Rattle.std.proofs.Common.{◌≡◌, ℕ, ◌+◌, ◌<◌, ◌≤◌, Bool,
 use Rattle.std.proofs.lemmas.Bool.{true≢false, cases_Bool, cases_lt, cases_order, lt-ltb, le-leb, not_from_false}
 use Rattle.std.proofs.lemmas.Bool.Decides.{not_from_Decides}
 use Rattle.std.specs.Option.{option_map, option_or}
-use Rattle.std.specs.Result.{result_err, result_map_both as mapped-result}
+use Rattle.std.specs.Result.{result_err, result_map_both}
 use Rattle.promise.specs.First.{first_below}
 use Rattle.promise.specs.Reasons.{ListedBefore}
 use Rattle.promise.proofs.Firsts.{first_found, none_found}
@@ -125,7 +125,7 @@ module _ (bytes : List ℕ) where
       omega arith
 
 -- what an answer refuses for, where it follows a refusal or its absence
-err_of : {D C : Type 0} (f : D → C) (x : C) (answer : Result D DeliveryRefusal) (refusal : Option DeliveryRefusal) → mapped-result f (λ e. e) answer ≡ unless_refused x refusal → result_err answer ≡ refusal
+err_of : {D C : Type 0} (f : D → C) (x : C) (answer : Result D DeliveryRefusal) (refusal : Option DeliveryRefusal) → result_map_both f (λ e. e) answer ≡ unless_refused x refusal → result_err answer ≡ refusal
 err_of f x (Ok d) None e = refl
 err_of f x (Ok d) (Some r) e = absurd (true≢false (let z : true ≡ false = cc in z))
 err_of f x (Err r) None e = absurd (true≢false (let z : true ≡ false = cc in z))
@@ -134,7 +134,7 @@ err_of f x (Err r) (Some s) e = cc
 module _ (bytes : List ℕ) where
   -- what `open` answers
   abbrev Answers : Result Delivery DeliveryRefusal → Type 0
-  Answers answer = mapped-result contents (λ e. e) answer ≡ opening bytes
+  Answers answer = result_map_both contents (λ e. e) answer ≡ opening bytes
 
   refuses : (answer : Result Delivery DeliveryRefusal) → Answers answer → result_err answer ≡ refusal_of bytes
   refuses answer e = err_of contents _ answer (refusal_of bytes) e

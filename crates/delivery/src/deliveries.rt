@@ -1,7 +1,7 @@
 // Opening a delivery, and what an opened one gives.
 ghost use Rattle.std.specs.Prelude.{◌≡◌, IfOk, OnOk};
 ghost use Rattle.std.specs.Option.{option_map};
-ghost use Rattle.std.specs.Result.{result_err, result_map_both as mapped-result};
+ghost use Rattle.std.specs.Result.{result_err, result_map_both};
 ghost use Rattle.delivery.specs.Opened.{opening, contents, GivesAll, entry_at, body_at, body_part};
 ghost use Rattle.delivery.specs.Rules.{RefusedRightly, BodiesApart};
 
@@ -34,7 +34,7 @@ pub struct Delivery<'a> {
 impl<'a> Delivery<'a> {
     /// Checks the table of contents, and refuses with the first reason that applies.
     pub fn open(bytes: &'a [u8]) -> Result<Delivery<'a>, DeliveryRefusal>
-        ensures value { mapped-result contents (λ e. e) result ≡ opening bytes.now }
+        ensures value { result_map_both contents (λ e. e) result ≡ opening bytes.now }
         ensures rightly { RefusedRightly bytes.now (result_err result) }
         ensures given { IfOk result (λ d. GivesAll (contents d)) }
         ensures apart { OnOk result (BodiesApart bytes.now) }
@@ -88,7 +88,7 @@ impl<'a> Delivery<'a> {
 }
 
 fn opened<'a>(bytes: &'a [u8]) -> Result<Delivery<'a>, DeliveryRefusal>
-    ensures { mapped-result contents (λ e. e) result ≡ opening bytes.now }
+    ensures { result_map_both contents (λ e. e) result ≡ opening bytes.now }
 {
     let Some(count) = listed_count(bytes) else {
         return Err(DeliveryRefusal::NoTable);

@@ -1,6 +1,6 @@
 // The fields of a body: each a length byte and that many bytes.
 ghost use Rattle.std.specs.Prelude.{◌≡◌};
-ghost use Rattle.std.specs.Result.{result_map_both as mapped-result};
+ghost use Rattle.std.specs.Result.{result_map_both};
 ghost use Rattle.delivery.specs.Opened.{body_part};
 ghost use Rattle.delivery.specs.Fields.{field_part, field_from, left_over, past_field};
 
@@ -31,7 +31,7 @@ impl<'a> FieldReader<'a> {
 
     /// The next field; or, where it passes the body's end, the place of its length byte, and nothing is passed over.
     pub fn field(&mut self) -> Result<Field<'a>, usize>
-        ensures value { mapped-result field_part (λ p. p) result ≡ field_from (body_part self.old.body) self.old.at }
+        ensures value { result_map_both field_part (λ p. p) result ≡ field_from (body_part self.old.body) self.old.at }
         ensures after { self.new.at ≡ past_field self.old.body.bytes.now self.old.at }
         ensures body { body_part self.new.body ≡ body_part self.old.body }
     {

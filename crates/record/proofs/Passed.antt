@@ -2,7 +2,7 @@
 use Rattle.std.proofs.Common.{◌≡◌, ℕ, Bool, true, false, cond, IfOk, Some, None, Ok, Err, Option, Result, sym, refl}
 use Rattle.std.proofs.lemmas.Bool.{true≢false, or_parts}
 use Rattle.std.specs.Option.{option_map, option_or}
-use Rattle.std.specs.Result.{result_err, result_map_both as mapped-result}
+use Rattle.std.specs.Result.{result_err, result_map_both}
 use Rattle.promise.specs.First.{first_below}
 use Rattle.promise.proofs.Firsts.{none_found}
 use Rattle.territory.specs.declared.numberings.Numbering.{Ghosts}
@@ -17,13 +17,13 @@ use Rattle.record.specs.declared.refusals.BodyRefusal.TheVariants.{Broken, Lifet
 
 -- an answer that follows a refusal or its absence
 module _ {D C : Type 0} (f : D → C) (x : C) where
-  pub refuses : (answer : Result D BodyRefusal) (refusal : Option BodyRefusal) → mapped-result f (λ e. e) answer ≡ unless_refused x refusal → result_err answer ≡ refusal
+  pub refuses : (answer : Result D BodyRefusal) (refusal : Option BodyRefusal) → result_map_both f (λ e. e) answer ≡ unless_refused x refusal → result_err answer ≡ refusal
   refuses (Ok d) None e = refl
   refuses (Ok d) (Some r) e = absurd (true≢false (let z : true ≡ false = cc in z))
   refuses (Err r) None e = absurd (true≢false (let z : true ≡ false = cc in z))
   refuses (Err r) (Some s) e = cc
 
-  pub made_when : (X : Type 0) (answer : Result D BodyRefusal) (refusal : Option BodyRefusal) → mapped-result f (λ e. e) answer ≡ unless_refused x refusal → (refusal ≡ None → X) → IfOk answer (λ _. X)
+  pub made_when : (X : Type 0) (answer : Result D BodyRefusal) (refusal : Option BodyRefusal) → result_map_both f (λ e. e) answer ≡ unless_refused x refusal → (refusal ≡ None → X) → IfOk answer (λ _. X)
   made_when X (Ok d) refusal e h = h (sym (refuses (Ok d) refusal e))
   made_when X (Err r) refusal e h = tt
 

@@ -1,6 +1,6 @@
 // Finding a field of a body by its number, and where a body breaks.
 ghost use Rattle.std.specs.Prelude.{◌≡◌};
-ghost use Rattle.std.specs.Result.{result_map_both as mapped-result};
+ghost use Rattle.std.specs.Result.{result_map_both};
 ghost use Rattle.delivery.specs.Opened.{body_part};
 ghost use Rattle.delivery.specs.Fields.{field_part, place_in};
 ghost use Rattle.record.specs.Bodies.{field_of, field_start, field_text, broken_at};
@@ -8,7 +8,7 @@ ghost use Rattle.record.specs.Bodies.{field_of, field_start, field_text, broken_
 use delivery::{Body, Field, FieldReader};
 
 pub(crate) fn field_at<'a>(body: Body<'a>, index: usize) -> Result<Field<'a>, usize>
-    ensures { mapped-result field_part (λ p. p) result ≡ field_of (body_part body.entry) index }
+    ensures { result_map_both field_part (λ p. p) result ≡ field_of (body_part body.entry) index }
 {
     let mut reader = FieldReader::new(body);
     for passed in 0..index {

@@ -1,6 +1,6 @@
 -- What the tests on bytes tell.
 use Rattle.std.proofs.Common.{◌≡◌, ℕ, List, Decides, refl, arith, rules}
-use Rattle.std.specs.List.{AllByRecursion as All}
+use Rattle.std.specs.List.{AllByRecursion}
 use Rattle.std.proofs.lemmas.Slice.Eq.{compares_Decides}
 use Rattle.std.proofs.lemmas.Bool.Decides.{nat_tests}
 use Rattle.std.proofs.ByRecursion.{Decides-by_and}
@@ -17,7 +17,7 @@ allows_decides Printable byte = grind (arith, nat_tests)
 allows_decides LocalIdentifier byte = grind (arith, nat_tests)
 allows_decides Agency byte = grind (arith, nat_tests)
 
-pub every_byte_decides : (kind : Alphabet) (text : List ℕ) → Decides (every_byte kind text) (All (Allowed kind) text)
+pub every_byte_decides : (kind : Alphabet) (text : List ℕ) → Decides (every_byte kind text) (AllByRecursion (Allowed kind) text)
 unfolding every_byte
 every_byte_decides kind =
     Decides-by_and (allows kind) (Allowed kind) (every_byte kind) (allows_decides kind) refl (λ _ _. refl)

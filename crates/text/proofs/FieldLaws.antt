@@ -1,6 +1,6 @@
 -- The test of a field's text decides its form.
 use Rattle.std.proofs.Common.{◌≡◌, ℕ, ◌+◌, ◌-◌, Bool, true, false, not, ◌||◌, eqb, List, [], ◌∷◌, ◌++◌, length, get_or, take, Decides, sym, refl, ap, ◌∙◌, arith}
-use Rattle.std.specs.List.{ContainsAt as Has}
+use Rattle.std.specs.List.{ContainsAt}
 use Rattle.std.proofs.lemmas.List.{get_or_push, length_push, nil_from_length, take_all, take_more}
 use Rattle.std.proofs.lemmas.Bool.{eq-eqb, eqb-true, false≢true, le-leb, leb-true}
 use Rattle.std.proofs.lemmas.Bool.Decides.{Decides-and, Decides-by_or, Decides-like, Decides-or, Decides-not}
@@ -27,7 +27,7 @@ last_decides : (text : List ℕ)
 last_decides text =
     (ends text, λ h. eq-eqb _ 32 (rw h.1 (get_or_push h.0 32 0 _ (omega (arith, length_push h.0 32)))))
 
-one_of_decides : (words : List (List ℕ)) (text : List ℕ) → Decides (one_of words text) (Has words text)
+one_of_decides : (words : List (List ℕ)) (text : List ℕ) → Decides (one_of words text) (ContainsAt words text)
 unfolding one_of
 one_of_decides words text =
     Decides-by_or (λ word. same_bytes text word) (λ word. word ≡ text) (λ ws. one_of ws text)

@@ -1,7 +1,7 @@
 -- Reading NGUIDs answers exactly their form.
 use Rattle.std.proofs.Common.{◌≡◌, ℕ, ◌+◌, ◌<◌, ◌≤◌, Bool, true, false, cond, eqb, leb, List, [], ◌∷◌, ◌++◌, length, get_or, take, drop, Some, None, Option, sym, refl, ap, ◌∙◌, subst, inl, inr, append_assoc, Bor, MatchOption}
 use Rattle.std.specs.Option.{option_map}
-use Rattle.std.specs.List.{AllByRecursion as All}
+use Rattle.std.specs.List.{AllByRecursion}
 use Rattle.std.proofs.lemmas.List.{append-nil, drop_all, drop_more, take_more}
 use Rattle.std.proofs.lemmas.Bool.{and_from, and_parts, eq-eqb, eqb-true, le-leb, leb-true, lt-leb, lt-ltb, ltb-true, ne_eqb}
 use Rattle.promise.specs.Exactly.{Exactly}
@@ -97,7 +97,7 @@ split_sound front (b ∷ bs) parts e =
       | inr later ↦ sym (append_assoc front (b ∷ []) bs) ∙ split_sound (front ++ (b ∷ [])) bs parts later.1
     ]
 
-split_complete : (front local agency : List ℕ) → All (Allowed LocalIdentifier) local
+split_complete : (front local agency : List ℕ) → AllByRecursion (Allowed LocalIdentifier) local
     → split_after front (local ++ (colon ++ agency)) ≡ Some (record { local = front ++ local; agency = agency })
 unfolding split_after
 split_complete front [] agency allowed = rw append-nil refl

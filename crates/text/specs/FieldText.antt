@@ -1,7 +1,7 @@
 -- The form of plain fields: printable bytes, no space at either end, and for the directionals one of eight words.
 -- The empty text has it: a field may be missing. Assumes nothing.
 use Rattle.std.specs.Prelude.{◌≡◌, ℕ, ◌-◌, ◌≤◌, Bool, true, false, not, ◌&&◌, ◌||◌, ◌≢◌, ◌⊎◌, List, [], ◌∷◌, ◌++◌, length, codes, ◌==◌, nat_le, slice_index}
-use Rattle.std.specs.List.{ContainsAt as Has, AllByRecursion as All}
+use Rattle.std.specs.List.{ContainsAt, AllByRecursion}
 use Rattle.text.specs.Bytes.{Allowed, every_byte, same_bytes}
 use Rattle.text.specs.Widths.{width_of}
 use Rattle.text.specs.declared.bytes.Alphabet.TheVariants.{Printable}
@@ -47,8 +47,8 @@ is_field_text field text =
 
 -- the text has the field's form
 pub record FieldText (field : TextField) (text : List ℕ) : Type 0 where
-  pub printable : All (Allowed Printable) text
+  pub printable : AllByRecursion (Allowed Printable) text
   pub within : length text ≤ width_of field
   pub no_first_space : (rest : List ℕ) → text ≢ 32 ∷ rest
   pub no_last_space : (front : List ℕ) → text ≢ front ++ (32 ∷ [])
-  pub direction : is_directional field ≡ true → (text ≡ []) ⊎ Has directions text
+  pub direction : is_directional field ≡ true → (text ≡ []) ⊎ ContainsAt directions text

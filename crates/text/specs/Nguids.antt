@@ -1,6 +1,6 @@
 -- NGUIDs: "urn:emergency:uid:gis:", a layer, a colon, a local identifier, a colon, an agency. Assumes nothing.
 use Rattle.std.specs.Prelude.{◌≡◌, ℕ, ◌<◌, ◌≤◌, Bool, cond, ◌&&◌, List, [], ◌∷◌, ◌++◌, length, Some, None, codes, Option, ◌==◌, nat_le, nat_lt}
-use Rattle.std.specs.List.{AllByRecursion as All}
+use Rattle.std.specs.List.{AllByRecursion}
 use Rattle.text.specs.Bytes.{Allowed, every_byte}
 use Rattle.text.specs.Widths.{nguid_width}
 use Rattle.text.specs.declared.bytes.Alphabet.TheVariants.{LocalIdentifier, Agency}
@@ -39,9 +39,9 @@ pub record NguidText (layer : Layer) (text : List ℕ) (parts : NguidParts) : Ty
   pub whole : text ≡ nguid_text layer parts
   pub within : length text ≤ nguid_width
   pub local_some : 0 < length parts.local
-  pub local_bytes : All (Allowed LocalIdentifier) parts.local
+  pub local_bytes : AllByRecursion (Allowed LocalIdentifier) parts.local
   pub agency_some : 0 < length parts.agency
-  pub agency_bytes : All (Allowed Agency) parts.agency
+  pub agency_bytes : AllByRecursion (Allowed Agency) parts.agency
 
 -- what follows the front, if the text begins with it
 unfoldable pub after : List ℕ → List ℕ → Option (List ℕ)
