@@ -1,7 +1,7 @@
-mod Bounds
+pub mod Bounds
 mod Days
 mod Digits
-mod Exact
+pub mod Exact
 mod Found
 mod Near
 mod Rests

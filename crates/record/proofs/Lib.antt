@@ -1,4 +1,10 @@
+pub mod Faults
+pub mod Formed
+pub mod Judged
 pub mod Laying
+pub mod LeftOver
+pub mod NamedReadings
+pub mod NamedTexts
 pub mod Passed
 pub mod Refused
 pub mod Walks

@@ -1,8 +1,12 @@
 pub mod Bodies
 pub mod Checking
+pub mod Forms
 pub mod Judging
 pub mod Laid
 pub mod Layouts
+pub mod Named
+pub mod Names
+pub mod Parts
 pub mod Passing
 pub mod Refusals
 pub mod Rules

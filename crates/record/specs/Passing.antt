@@ -1,5 +1,5 @@
--- What a body is that passed the checks of its kind. Assumes nothing.
-use Rattle.std.specs.Prelude.{◌≡◌, ℕ, ◌<◌, false, Some, None, Ok, Err, Option, Result, slice_index_or}
+-- What a body is that passed the checks of its kind, and what another numbering may still refuse it for. Assumes nothing.
+use Rattle.std.specs.Prelude.{◌≡◌, ℕ, ◌+◌, ◌<◌, false, Some, None, Ok, Err, Option, Result, slice_index_or}
 use Rattle.std.specs.Result.{result_map_both}
 use Rattle.territory.specs.declared.numberings.Numbering.{Ghosts}
 use Rattle.text.specs.declared.nguid.Layer.TheVariants as layer
@@ -9,8 +9,11 @@ use Rattle.record.specs.Bodies.{field_text, broken_at}
 use Rattle.record.specs.Checking.{field_count, no_lifetime, refusal_of}
 use Rattle.record.specs.Judging.{faulty_text}
 use Rattle.record.specs.Layouts.{layout}
-use Rattle.record.specs.declared.field_names.FieldName.TheVariants.{Identifier}
+use Rattle.record.specs.Named.{name_at}
+use Rattle.record.specs.declared.field_names.FieldName.{FieldName}
+use Rattle.record.specs.declared.field_names.FieldName.TheVariants.{Identifier, RoadIdentifier, Text, SideText, Numbering, Place, DateUpdate, Effective, Expire, Retirement}
 use Rattle.record.specs.declared.refusals.BodyRefusal.{BodyRefusal}
+use Rattle.record.specs.declared.refusals.BodyRefusal.TheVariants.{Broken, Field, Lifetime}
 
 abbrev pub unless_refused : {A : Type 0} → A → Option BodyRefusal → Result A BodyRefusal
 unless_refused x None = Ok x
@@ -28,3 +31,26 @@ pub record Passes (kind : Kind) (body : Part) : Type 0 where
   pub whole : broken_at body 0 (field_count kind) ≡ None
   pub texts : (index : ℕ) → index < field_count kind → faulty_text (slice_index_or (layout kind) index (Identifier layer.Road)) (field_text body.bytes index) ≡ false
   pub lasting : no_lifetime kind body.bytes ≡ false
+
+-- a numbering text or a place
+abbrev pub FollowsNumbering : FieldName → Type 0
+FollowsNumbering (Identifier which) = ⊥
+FollowsNumbering RoadIdentifier = ⊥
+FollowsNumbering (Text field) = ⊥
+FollowsNumbering (SideText side field) = ⊥
+FollowsNumbering (Numbering side which) = Unit {0}
+FollowsNumbering Place = Unit {0}
+FollowsNumbering DateUpdate = ⊥
+FollowsNumbering Effective = ⊥
+FollowsNumbering Expire = ⊥
+FollowsNumbering Retirement = ⊥
+
+-- a field at fault that follows the numbering
+abbrev pub OfNumbering : Kind → BodyRefusal → Type 0
+OfNumbering kind (Broken place) = ⊥
+OfNumbering kind (Field number place) = (index : ℕ) × (number ≡ index + 1) × FollowsNumbering (name_at kind index)
+OfNumbering kind Lifetime = ⊥
+
+-- of a passed body, no other reason is left
+abbrev pub LeftToNumbering : Kind → Part → Option BodyRefusal → Type 0
+LeftToNumbering kind body refusal = Passes kind body → (given : BodyRefusal) → refusal ≡ Some given → OfNumbering kind given

@@ -2,6 +2,7 @@
 ghost use Rattle.std.specs.Prelude.{◌≡◌, ◌^◌, ◌<◌, length, None};
 ghost use Rattle.delivery.specs.Opened.{body_part};
 ghost use Rattle.record.specs.Checking.{has_lifetime, no_time, no_lifetime, fault_of, refusal_of};
+ghost use Rattle.record.specs.Forms.{RefusedByForm};
 ghost use Rattle.record.specs.Laid.{Laid};
 ghost use Rattle.record.specs.Rules.{RefusedRightly, fields_of};
 ghost use Rattle.instant.specs.Limits.{earliest, latest, instant_or};
@@ -18,6 +19,7 @@ use territory::{Bound, Numbering};
 pub fn refusal<N: Numbering>(kind: Kind, body: Body) -> Option<BodyRefusal>
     ensures value { result ≡ refusal_of N.Numbering.own kind (body_part body.entry) }
     ensures rightly { RefusedRightly N.Numbering.own kind (body_part body.entry) result }
+    ensures formed { RefusedByForm N.Numbering.own kind (body_part body.entry) result }
     ensures whole { result ≡ None → Laid body.entry.bytes.now (fields_of kind body.entry.bytes.now) }
 {
     first_refusal::<N>(kind, body)

@@ -1,5 +1,5 @@
 // The bodies of a delivery: the layout of each kind, the checks of its fields with the first reason that applies,
-// and checked bodies, which say by their type what they describe and give their texts, numberings, places and instants.
+// and checked bodies, which say by their type what they describe and give their texts, names, numberings, places and times.
 #![tactic(auto)]
 
 mod body_kinds;
@@ -7,6 +7,8 @@ mod checking;
 mod field_names;
 mod judging;
 mod layouts;
+mod named;
+mod naming;
 mod records;
 mod refusals;
 mod walking;

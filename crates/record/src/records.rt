@@ -5,10 +5,12 @@ ghost use Rattle.instant.specs.Reading.{instant_in};
 ghost use Rattle.delivery.specs.Opened.{body_part};
 ghost use Rattle.record.specs.Bodies.{field_text};
 ghost use Rattle.record.specs.Checking.{refusal_of};
+ghost use Rattle.record.specs.Forms.{RefusedByForm};
 ghost use Rattle.record.specs.Judging.{reading_from};
 ghost use Rattle.record.specs.Layouts.{numbering_field, place_field, NumberingStands, PlaceStands};
 ghost use Rattle.record.specs.Laid.{Laid};
-ghost use Rattle.record.specs.Passing.{accepted_part, passing, Passes};
+ghost use Rattle.record.specs.Parts.{place_of, reading_of};
+ghost use Rattle.record.specs.Passing.{accepted_part, passing, LeftToNumbering, Passes};
 ghost use Rattle.record.specs.Rules.{RefusedRightly, fields_of};
 
 use crate::checking::refusal;
@@ -19,6 +21,8 @@ use delivery::Body;
 use instant::Instant;
 use std::marker::PhantomData;
 use territory::{Numbering, NumberingText};
+
+mod parts;
 
 /// A body that passed the checks of its kind; only `check` makes one.
 #[derive(Drop)]
@@ -31,6 +35,7 @@ pub struct Checked<'a, K> {
 pub fn check<'a, N: Numbering, K: BodyKind>(body: Body<'a>) -> Result<Checked<'a, K>, BodyRefusal>
     ensures value { accepted_part (λ c. body_part c.body) result ≡ passing N.Numbering.own K.BodyKind.kind (body_part body.entry) }
     ensures rightly { RefusedRightly N.Numbering.own K.BodyKind.kind (body_part body.entry) (result_err result) }
+    ensures formed { RefusedByForm N.Numbering.own K.BodyKind.kind (body_part body.entry) (result_err result) }
     ensures unrefused { OnOk result (refusal_of N.Numbering.own K.BodyKind.kind (body_part body.entry) ≡ None) }
     ensures laid { OnOk result (Laid body.entry.bytes.now (fields_of K.BodyKind.kind body.entry.bytes.now)) }
     ensures passes { OnOk result (Passes K.BodyKind.kind (body_part body.entry)) }
@@ -66,10 +71,21 @@ impl<'a, K> Checked<'a, K> {
     }
 }
 
+impl<'a, K: BodyKind> Checked<'a, K> {
+    /// The first reason for which the body is refused by another numbering, if any; by its own, there is none.
+    pub fn refusal<N: Numbering>(&self) -> Option<BodyRefusal>
+        ensures value { result ≡ refusal_of N.Numbering.own K.BodyKind.kind (body_part self.now.body) }
+        ensures left { LeftToNumbering K.BodyKind.kind (body_part self.now.body) result }
+    {
+        refusal::<N>(K::kind(), self.body)
+    }
+}
+
 impl<'a> Checked<'a, RoadBody> {
     /// The numbering of a side.
     pub fn numbering<N: Numbering>(&self, side: Side) -> Result<N, NumberingText>
-        ensures { result ≡ reading_from N.Numbering.own self.now.body.bytes.now (numbering_field side) }
+        ensures value { result ≡ reading_from N.Numbering.own self.now.body.bytes.now (numbering_field side) }
+        ensures named { result ≡ reading_of N.Numbering.own self.now.body.bytes.now side }
     {
         read_from::<N>(self.body, numbering_field(side))
     }
@@ -80,6 +96,7 @@ impl<'a> Checked<'a, PointBody> {
     pub fn place<N: Numbering>(&self) -> Option<N::Point>
         ensures stands { PlaceStands }
         ensures value { result ≡ N.Numbering.place (field_text self.now.body.bytes.now place_field) }
+        ensures named { result ≡ place_of N.Numbering.own self.now.body.bytes.now }
     {
         N::read_place(text_at(self.body, PLACE_FIELD))
     }

@@ -1,10 +1,9 @@
-use Rattle.std.proofs.Common.{◌≡◌, ◌+◌, ◌-◌, length, Some, sym, ap, ◌∙◌, arith}
-use Rattle.std.specs.Option.{option_map}
+use Rattle.std.proofs.Common.{◌≡◌, ◌-◌, length, true, sym, ap, ◌∙◌, arith}
 use Rattle.promise.specs.First.{first_from}
-use Rattle.promise.proofs.Firsts.{first_stops, first_goes, first_ends}
+use Rattle.promise.proofs.Firsts.{first_goes}
 use Rattle.delivery.specs.Opened.{body_part}
-use Rattle.record.specs.Checking.{faulty, fault_told}
-use Rattle.record.specs.declared.refusals.BodyRefusal.TheVariants.{Field}
+use Rattle.record.specs.Checking.{faulty}
+use Rattle.record.proofs.Faults.{fault_found, no_fault}
 use Rattle.record.proofs.checking.fault.Goals as goal
 
 pub loop-index-init : goal.loop-index-init
@@ -21,11 +20,9 @@ loop-index-preserved g c =
 pub returns-then-is_faulty : goal.returns-then-is_faulty
 unfolding faulty
 returns-then-is_faulty g c =
-    let found = c.loop-index.invariant ∙ first_stops (faulty g.N.Numbering c.args.names.now c.args.body.bytes.now) c.loop-index.index (length c.args.names.now) c.loop-index-test.true (sym c.if-is_faulty.ensures) in
-    ap (λ place. Some (Field (c.loop-index.index + 1) place)) c.place_at.ensures
-    ∙ sym (ap (option_map (fault_told (body_part c.args.body))) found)
+    let bad : faulty g.N.Numbering c.args.names.now c.args.body.bytes.now c.loop-index.index ≡ true = sym c.if-is_faulty.ensures in
+    fault_found (body_part c.args.body) (faulty g.N.Numbering c.args.names.now c.args.body.bytes.now) (length c.args.names.now) c.loop-index.index c.loop-index.invariant c.place_at.result c.loop-index-test.true bad c.place_at.ensures
 
 pub returns : goal.returns
 returns g c =
-    let none = c.loop-index.invariant ∙ first_ends (faulty g.N.Numbering c.args.names.now c.args.body.bytes.now) c.loop-index.index (length c.args.names.now) c.loop-index-test.false in
-    sym (ap (option_map (fault_told (body_part c.args.body))) none)
+    no_fault (body_part c.args.body) (faulty g.N.Numbering c.args.names.now c.args.body.bytes.now) (length c.args.names.now) c.loop-index.index c.loop-index.invariant c.loop-index-test.false
