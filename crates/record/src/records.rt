@@ -83,6 +83,7 @@ impl<'a, K: BodyKind> Checked<'a, K> {
 
 impl<'a> Checked<'a, RoadBody> {
     /// The numbering of a side.
+    #[tactic(auto, using(crate::proofs::NamedReadings::reading_named))]
     pub fn numbering<N: Numbering>(&self, side: Side) -> Result<N, NumberingText>
         ensures value { result ≡ reading_from N.Numbering.own self.now.body.bytes.now (numbering_field side) }
         ensures named { result ≡ reading_of N.Numbering.own self.now.body.bytes.now side }
@@ -93,6 +94,7 @@ impl<'a> Checked<'a, RoadBody> {
 
 impl<'a> Checked<'a, PointBody> {
     /// The place of the point.
+    #[tactic(auto, using(crate::proofs::NamedReadings::place_named))]
     pub fn place<N: Numbering>(&self) -> Option<N::Point>
         ensures stands { PlaceStands }
         ensures value { result ≡ N.Numbering.place (field_text self.now.body.bytes.now place_field) }
