@@ -92,12 +92,12 @@ module _ (bytes : List ℕ) where
       record {
         after_table = λ i h. ⊎_elim (λ before. absurd (never (BadEntry i) (h, inr (inl before)))) (λ after. after) (cases_lt _ _);
         inside = λ i h. ⊎_elim (λ past. absurd (never (BadEntry i) (h, inr (inr past)))) (λ inside. inside) (cases_lt _ _);
-        apart = λ i j b h k in-i in-j.
+        apart = λ i j b h k in_i in_j.
             ⊎_elim
             (λ same. same)
             (⊎_elim
-            (λ below. absurd (never (SharedByte j) (k, (i, b, below, in-i, in-j))))
-            (λ above. absurd (never (SharedByte i) (h, (j, b, above, in-j, in-i)))))
+            (λ below. absurd (never (SharedByte j) (k, (i, b, below, in_i, in_j))))
+            (λ above. absurd (never (SharedByte i) (h, (j, b, above, in_j, in_i)))))
             (cases_order i j);
       }
 

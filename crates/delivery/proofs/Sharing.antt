@@ -8,8 +8,8 @@ use Rattle.territory.specs.Meaning.{Lawful}
 use Rattle.territory.specs.Stretches.{from_to, lies_within, meeting}
 use Rattle.territory.specs.declared.byte_places.BytePlace.{BytePlace}
 use Rattle.territory.specs.declared.stretches.Stretch.{Stretch}
-use Rattle.territory.specs.Numbered.{by_number}
-use Rattle.territory.specs.Stretched.{stretch_lawful}
+use Rattle.territory.specs.Laws.Numbered.{by_number}
+use Rattle.territory.specs.Laws.Stretched.{stretch_lawful}
 use Rattle.delivery.specs.Contents.{body_place, body_end}
 use Rattle.delivery.specs.Opening.{share_a_byte, shares_earlier}
 use Rattle.delivery.specs.Taken.{Free, taken_also}
@@ -49,8 +49,8 @@ module _ (bytes : List ℕ) where
       let w = (any_decides (share_a_byte bytes n) n).0 shares in
       let b = (share_decides n w.0).0 w.2 in
       let own = (in_body_bounds b.0 n).0 b.1 in
-      let taken-by = (any_decides (in_body b.0) n).1 (w.0, w.1, b.2) in
-      absurd (true≢false (sym taken-by ∙ sym (marked b.0) ∙ decides.0 refl b.0 own.0 own.1)))
+      let taken_by = (any_decides (in_body b.0) n).1 (w.0, w.1, b.2) in
+      absurd (true≢false (sym taken_by ∙ sym (marked b.0) ∙ decides.0 refl b.0 own.0 own.1)))
       (λ none. none)
       (cases_Bool (shares_earlier bytes n))
   shares_if_taken n taken false marked decides =
@@ -63,7 +63,7 @@ module _ (bytes : List ℕ) where
       let w = (any_decides (in_body b) n).0 some in
       let both = (share_decides n w.0).1 (b, (in_body_bounds b n).1 (from, below), w.2) in
       absurd (true≢false (sym ((any_decides (share_a_byte bytes n) n).1 (w.0, w.1, both)) ∙ none)))
-      (λ not-any. marked b ∙ not-any)
+      (λ not_any. marked b ∙ not_any)
       (cases_Bool (any_below (in_body b) n)) in
       absurd (false≢true (decides.1 free)))
       (cases_Bool (shares_earlier bytes n))

@@ -27,11 +27,11 @@ time_written text h =
     let hour = two 11 (lit< tt) refl refl in
     let minute = two 14 (lit< tt) refl refl in
     let second = two 17 (lit< tt) refl refl in
-    let after-year = mark 4 (lit< tt) (λ e. omega arith) in
-    let after-month = mark 7 (lit< tt) (λ e. omega arith) in
-    let after-day = mark 10 (lit< tt) (λ e. omega arith) in
-    let after-hour = mark 13 (lit< tt) (λ e. omega arith) in
-    let after-minute = mark 16 (lit< tt) (λ e. omega arith) in
+    let after_year = mark 4 (lit< tt) (λ e. omega arith) in
+    let after_month = mark 7 (lit< tt) (λ e. omega arith) in
+    let after_day = mark 10 (lit< tt) (λ e. omega arith) in
+    let after_hour = mark 13 (lit< tt) (λ e. omega arith) in
+    let after_minute = mark 16 (lit< tt) (λ e. omega arith) in
     text_from_reads text (written (time_at text)) (form_length local_form text h) (search rules)
 
 written_form : (t : LocalTime) → has_form local_form (written t) ≡ true

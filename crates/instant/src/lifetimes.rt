@@ -3,9 +3,9 @@ ghost use Rattle.std.specs.Prelude.{◌≡◌, ◌≤ℤ◌};
 ghost use Rattle.std.specs.Option.{option_map};
 ghost use Rattle.territory.specs.Stretches.{from_to, lies_within, meeting};
 ghost use Rattle.instant.specs.Instants.{instant_before, instant_level, lifetime_from};
-ghost use Rattle.territory.specs.Seen.{lawful_through};
-ghost use Rattle.territory.specs.Stretched.{stretch_lawful};
-ghost use Rattle.instant.specs.InOrder.{instants_total};
+ghost use Rattle.territory.specs.Laws.Seen.{lawful_through};
+ghost use Rattle.territory.specs.Laws.Stretched.{stretch_lawful};
+ghost use Rattle.instant.specs.Laws.InOrder.{instants_total};
 
 use crate::Instant;
 use territory::{Bound, Stretch, Territory};

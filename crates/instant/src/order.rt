@@ -1,7 +1,7 @@
 // Instants bound stretches of time: their order is total.
 
 ghost use Rattle.instant.specs.Instants.{instant_before, instant_level};
-ghost use Rattle.instant.specs.InOrder.{instants_total};
+ghost use Rattle.instant.specs.Laws.InOrder.{instants_total};
 
 use crate::Instant;
 use territory::Bound;

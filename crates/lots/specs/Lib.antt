@@ -1,2 +1,2 @@
 pub mod Lots
-pub mod LotsNumberingLemmas
+pub mod Laws

@@ -6,7 +6,7 @@ ghost use Rattle.std.specs.Prelude.{◌≡◌, ◌&&◌, ◌==◌, nat_le, refl}
 ghost use Rattle.lots.specs.Lots.{lowest_shared, reading_of, lot_of, written_lot};
 ghost use Rattle.std.proofs.Common.{rules, arith};
 ghost use Rattle.std.proofs.lemmas.Bool.{eq-eqb};
-ghost use Rattle.lots.specs.LotsNumberingLemmas.{one_digit, back};
+ghost use Rattle.lots.specs.Laws.LotsWritten.{one_digit, back};
 
 use territory::{Numbering, NumberingText, Territory};
 

@@ -1,15 +1,8 @@
 pub mod Hexadecimal
+pub mod Laws
 pub mod Least
 pub mod Marks
 pub mod Parities
 pub mod Places
 pub mod Ranges
 pub mod ThreeTexts
-pub mod Leasts
-pub mod MarkLaws
-pub mod BitLaws
-pub mod HexLaws
-pub mod ThreeReads
-pub mod PlaceLaws
-pub mod RangeLaws
-pub mod ParityLaws

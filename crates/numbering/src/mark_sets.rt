@@ -6,9 +6,9 @@ ghost use Rattle.text.specs.AddressNumber.{read_number};
 ghost use Rattle.numbering.specs.Least.{Least, both_hold, least_shared};
 ghost use Rattle.numbering.specs.Marks.{MarksFault, MarksTexts, first_number, marks_hold, marks_past, marks_reading};
 ghost use Rattle.numbering.specs.Places.{same_number, written_place};
-ghost use Rattle.numbering.specs.Leasts.{least_lawful};
-ghost use Rattle.numbering.specs.MarkLaws.{bounded};
-ghost use Rattle.numbering.specs.PlaceLaws.{places_written};
+ghost use Rattle.numbering.specs.Laws.Leasts.{least_lawful};
+ghost use Rattle.numbering.specs.Laws.MarkLaws.{bounded};
+ghost use Rattle.numbering.specs.Laws.PlaceLaws.{places_written};
 
 use crate::hexadecimal::read_hexadecimal;
 use territory::{Numbering, NumberingText, Territory};

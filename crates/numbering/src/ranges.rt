@@ -6,9 +6,9 @@ ghost use Rattle.text.specs.AddressNumber.{read_number};
 ghost use Rattle.numbering.specs.Least.{Least, both_hold, least_shared};
 ghost use Rattle.numbering.specs.Places.{same_number, written_place};
 ghost use Rattle.numbering.specs.Ranges.{RangeFault, RangeTexts, high, low, range_holds, range_past, range_reading};
-ghost use Rattle.numbering.specs.Leasts.{least_lawful};
-ghost use Rattle.numbering.specs.RangeLaws.{bounded};
-ghost use Rattle.numbering.specs.PlaceLaws.{places_written};
+ghost use Rattle.numbering.specs.Laws.Leasts.{least_lawful};
+ghost use Rattle.numbering.specs.Laws.RangeLaws.{bounded};
+ghost use Rattle.numbering.specs.Laws.PlaceLaws.{places_written};
 
 use crate::Parity;
 use territory::{Numbering, NumberingText, Territory};

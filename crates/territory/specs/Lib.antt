@@ -1,12 +1,8 @@
 pub mod BytePlaces
-pub mod Order
+pub mod Laws
 pub mod Meaning
+pub mod Order
 pub mod Pairs
 pub mod Places
-pub mod Seen
 pub mod Singles
 pub mod Stretches
-pub mod Numbered
-pub mod Paired
-pub mod Stretched
-pub mod Ordered

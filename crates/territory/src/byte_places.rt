@@ -1,6 +1,6 @@
 // Places of bytes in a delivery: they bound spans.
 ghost use Rattle.territory.specs.BytePlaces.{place_before, place_level};
-ghost use Rattle.territory.specs.Numbered.{by_number};
+ghost use Rattle.territory.specs.Laws.Numbered.{by_number};
 
 use crate::Bound;
 

@@ -4,9 +4,9 @@ ghost use Rattle.std.specs.Option.{option_map};
 ghost use Rattle.territory.specs.BytePlaces.{byte_place, place_before, place_level};
 ghost use Rattle.territory.specs.Singles.{told_if};
 ghost use Rattle.territory.specs.Stretches.{from_to, lies_within, meeting};
-ghost use Rattle.territory.specs.Numbered.{by_number};
-ghost use Rattle.territory.specs.Seen.{lawful_through};
-ghost use Rattle.territory.specs.Stretched.{stretch_lawful};
+ghost use Rattle.territory.specs.Laws.Numbered.{by_number};
+ghost use Rattle.territory.specs.Laws.Seen.{lawful_through};
+ghost use Rattle.territory.specs.Laws.Stretched.{stretch_lawful};
 
 use crate::{Bound, BytePlace, Stretch, Territory};
 

@@ -1,7 +1,7 @@
 // Two territories together: a point of each.
 ghost use Rattle.std.specs.Prelude.{◌≡◌, ◌&&◌};
 ghost use Rattle.territory.specs.Pairs.{both_told};
-ghost use Rattle.territory.specs.Paired.{both_same, pair_lawful};
+ghost use Rattle.territory.specs.Laws.Paired.{both_same, pair_lawful};
 
 use crate::Territory;
 

@@ -1,7 +1,7 @@
 // The values from a first bound up to, but without, an end bound.
 ghost use Rattle.std.specs.Prelude.{◌≡◌};
 ghost use Rattle.territory.specs.Stretches.{lies_within, meeting, later, earlier};
-ghost use Rattle.territory.specs.Stretched.{stretch_lawful};
+ghost use Rattle.territory.specs.Laws.Stretched.{stretch_lawful};
 
 use crate::{Bound, Territory};
 

@@ -1,6 +1,6 @@
 use Rattle.std.proofs.Common.{◌<◌, get_or, sym, ◌∙◌, pow-suc, add-one, arith}
 use Rattle.text.proofs.Inversions.{goes, stops}
-use Rattle.numbering.specs.HexLaws.{digit_below, hex_all, hex_more, hex_sized, room}
+use Rattle.numbering.specs.Laws.HexLaws.{digit_below, hex_all, hex_more, hex_sized, room}
 use Rattle.numbering.proofs.hexadecimal.read_hexadecimal.Goals as goal
 
 pub overflow_mul-number : goal.overflow_mul-number

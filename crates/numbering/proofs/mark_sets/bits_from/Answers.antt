@@ -1,5 +1,5 @@
 use Rattle.std.proofs.Common.{sym, arith}
-use Rattle.numbering.specs.BitLaws.{nothing_past}
+use Rattle.numbering.specs.Laws.BitLaws.{nothing_past}
 use Rattle.numbering.proofs.mark_sets.bits_from.Goals as goal
 
 pub returns-else-place-lt-BITS : goal.returns-else-place-lt-BITS

@@ -1,5 +1,5 @@
 use Rattle.std.proofs.Common.{arith}
-use Rattle.numbering.specs.MarkLaws.{shares}
+use Rattle.numbering.specs.Laws.MarkLaws.{shares}
 use Rattle.numbering.proofs.mark_sets.Marks.shared.Goals as goal
 
 pub returns : goal.returns

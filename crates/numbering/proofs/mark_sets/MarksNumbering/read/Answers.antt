@@ -1,4 +1,4 @@
-use Rattle.numbering.specs.MarkLaws.{marks_told}
+use Rattle.numbering.specs.Laws.MarkLaws.{marks_told}
 use Rattle.numbering.proofs.mark_sets.MarksNumbering.read.Goals as goal
 
 pub returns : goal.returns

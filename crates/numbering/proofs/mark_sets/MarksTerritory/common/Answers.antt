@@ -1,6 +1,6 @@
 use Rattle.numbering.specs.Marks.{marks_hold, marks_past}
-use Rattle.numbering.specs.Leasts.{least_is, least_of_shared}
-use Rattle.numbering.specs.MarkLaws.{bounded}
+use Rattle.numbering.specs.Laws.Leasts.{least_is, least_of_shared}
+use Rattle.numbering.specs.Laws.MarkLaws.{bounded}
 use Rattle.numbering.proofs.mark_sets.MarksTerritory.common.Goals as goal
 
 pub returns : goal.returns

@@ -1,5 +1,5 @@
 use Rattle.std.proofs.Common.{arith}
-use Rattle.numbering.specs.MarkLaws.{told_by_bit}
+use Rattle.numbering.specs.Laws.MarkLaws.{told_by_bit}
 use Rattle.numbering.proofs.mark_sets.MarksTerritory.holds.Goals as goal
 
 pub returns-then-number-le-GREATEST_NUMBER : goal.returns-then-number-le-GREATEST_NUMBER

@@ -1,4 +1,4 @@
-use Rattle.numbering.specs.RangeLaws.{range_told}
+use Rattle.numbering.specs.Laws.RangeLaws.{range_told}
 use Rattle.numbering.proofs.ranges.RangeNumbering.read.Goals as goal
 
 pub returns : goal.returns

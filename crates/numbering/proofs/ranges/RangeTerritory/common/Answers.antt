@@ -1,6 +1,6 @@
 use Rattle.numbering.specs.Ranges.{range_holds, range_past}
-use Rattle.numbering.specs.Leasts.{least_is, least_of_shared}
-use Rattle.numbering.specs.RangeLaws.{bounded}
+use Rattle.numbering.specs.Laws.Leasts.{least_is, least_of_shared}
+use Rattle.numbering.specs.Laws.RangeLaws.{bounded}
 use Rattle.numbering.proofs.ranges.RangeTerritory.common.Goals as goal
 
 pub returns : goal.returns

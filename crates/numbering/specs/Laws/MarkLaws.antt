@@ -15,10 +15,10 @@ use Rattle.numbering.specs.Least.{Least, both_hold}
 use Rattle.numbering.specs.Marks.{FirstText, MarksFault, MarksTexts, bit_set, first_number, greatest_first, if_at_most, marks_from, marks_hold, marks_past, marks_reading}
 use Rattle.numbering.specs.Places.{address}
 use Rattle.numbering.specs.declared.mark_sets.Marks.{Marks}
-use Rattle.numbering.specs.BitLaws.{bit_both, bit_shifted, lowest, Lowest, no_bit_past}
-use Rattle.numbering.specs.HexLaws.{hex_exactly}
-use Rattle.numbering.specs.Leasts.{none_least, some_least}
-use Rattle.numbering.specs.ThreeReads.{three_told}
+use Rattle.numbering.specs.Laws.BitLaws.{bit_both, bit_shifted, lowest, Lowest, no_bit_past}
+use Rattle.numbering.specs.Laws.HexLaws.{hex_exactly}
+use Rattle.numbering.specs.Laws.Leasts.{none_least, some_least}
+use Rattle.numbering.specs.Laws.ThreeReads.{three_told}
 
 pub bounded : (m : Marks) (n : ℕ) → marks_hold m n ≡ true → n < marks_past m
 bounded m n h = grind (arith, nat_tests)

@@ -12,8 +12,8 @@ use Rattle.numbering.specs.Parities.{agrees, parity_of}
 use Rattle.numbering.specs.Places.{address}
 use Rattle.numbering.specs.Ranges.{RangeFault, RangeTexts, if_agreed, range_between, range_holds, range_past, range_reading}
 use Rattle.numbering.specs.declared.ranges.Range.{Range}
-use Rattle.numbering.specs.ParityLaws.{agrees_decides, parity_exactly}
-use Rattle.numbering.specs.ThreeReads.{three_told}
+use Rattle.numbering.specs.Laws.ParityLaws.{agrees_decides, parity_exactly}
+use Rattle.numbering.specs.Laws.ThreeReads.{three_told}
 
 pub bounded : (r : Range) (n : ℕ) → range_holds r n ≡ true → n < range_past r
 bounded r n h = grind (arith, nat_tests)

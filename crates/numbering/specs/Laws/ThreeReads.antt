@@ -52,19 +52,19 @@ module _ {A B S : Type 0} {FirstSays : A → Type 0} {SecondSays : B → Type 0}
   NoneBefore told text = Fault text → Earlier text told → ⊥
 
   by_made : (a : A) (b : B) → first ≡ Some a → second ≡ Some b → (answer : Option S) → made a b ≡ answer → FirstThatApplies Fault Earlier (result_err (ok_or answer Third))
-  by_made a b is-first is-second None e =
-      told_first Fault Earlier Third (λ s says. none_some s (rw (is-first, is-second, e) at (three_exactly.complete s says)))
+  by_made a b is_first is_second None e =
+      told_first Fault Earlier Third (λ s says. none_some s (rw (is_first, is_second, e) at (three_exactly.complete s says)))
       (λ t. elim t as (NoneBefore Third) [
-        | First ↦ λ fault _. fault a (first_read.sound a is-first)
-        | Second ↦ λ fault _. fault b (second_read.sound b is-second)
+        | First ↦ λ fault _. fault a (first_read.sound a is_first)
+        | Second ↦ λ fault _. fault b (second_read.sound b is_second)
         | Third ↦ λ _ earlier. omega arith
       ])
-  by_made a b is-first is-second (Some s) e =
+  by_made a b is_first is_second (Some s) e =
       none_told Fault Earlier
       (λ t. elim t as (λ t. Fault t → ⊥) [
-        | First ↦ λ fault. fault a (first_read.sound a is-first)
-        | Second ↦ λ fault. fault b (second_read.sound b is-second)
-        | Third ↦ λ fault. fault s (joins a b s (first_read.sound a is-first) (second_read.sound b is-second) e)
+        | First ↦ λ fault. fault a (first_read.sound a is_first)
+        | Second ↦ λ fault. fault b (second_read.sound b is_second)
+        | Third ↦ λ fault. fault s (joins a b s (first_read.sound a is_first) (second_read.sound b is_second) e)
       ])
 
   by_second : (a : A) → first ≡ Some a → (answer : Option B) → second ≡ answer → FirstThatApplies Fault Earlier (result_err (read_three (Some a) answer made))

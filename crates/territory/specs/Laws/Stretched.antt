@@ -6,7 +6,7 @@ use Rattle.territory.specs.Order.{Total}
 use Rattle.territory.specs.Meaning.{Lawful}
 use Rattle.territory.specs.Stretches.{lies_within, later, earlier, meeting}
 use Rattle.territory.specs.declared.stretches.Stretch.{Stretch}
-use Rattle.territory.specs.Ordered.{never_before_itself, not_after, before_over, before_under, level_equivalence}
+use Rattle.territory.specs.Laws.Ordered.{never_before_itself, not_after, before_over, before_under, level_equivalence}
 
 module _ {B : Type 0} {before level : B → B → Bool} (o : Total before level) where
   -- the later of two comes before neither
