@@ -1,4 +1,4 @@
--- What the fields are called; a name is known by what it is called and by its side. Assumes nothing.
+-- What the fields are called. A name is known by what it is called and by its side; an identifier's layer is no part of it. Assumes nothing.
 use Rattle.std.specs.Prelude.{ℕ, Bool, ◌&&◌, List, [], codes}
 use Rattle.territory.specs.declared.numberings.NumberingText.{NumberingText}
 use Rattle.territory.specs.declared.numberings.NumberingText.TheVariants.{First, Second, Third}
@@ -21,15 +21,15 @@ text_label PostDirectional = codes "St_PosDir"
 text_label PostModifier = codes "St_PosMod"
 text_label FullName = codes "full name"
 text_label County = codes "county"
-text_label Municipality = codes "Inc_Muni"
-text_label NumberPrefix = codes "prefix"
-text_label NumberSuffix = codes "suffix"
+text_label Municipality = codes "municipality"
+text_label NumberPrefix = codes "number prefix"
+text_label NumberSuffix = codes "number suffix"
 text_label Unit = codes "unit"
 
 abbrev pub numbering_label : NumberingText → List ℕ
-numbering_label First = codes "first"
-numbering_label Second = codes "second"
-numbering_label Third = codes "third"
+numbering_label First = codes "first numbering text"
+numbering_label Second = codes "second numbering text"
+numbering_label Third = codes "third numbering text"
 
 abbrev pub label : FieldName → List ℕ
 label (Identifier layer) = codes "NGUID"

@@ -23,6 +23,7 @@ lifetime_between None expire = None
 lifetime_between (Some effective) None = None
 lifetime_between (Some effective) (Some expire) = lifetime_from effective expire
 
+-- a kind without these fields lasts from the earliest instant to the latest
 abbrev pub lifetime_of : Kind → List ℕ → Option (Stretch Instant)
 lifetime_of kind body = lifetime_between (instant_or earliest (text_of kind body Effective)) (instant_or latest (text_of kind body Expire))
 

@@ -54,9 +54,9 @@ fn numbering_label(text: NumberingText) -> &'static [u8]
     ensures { result.now ≡ numbering_label text }
 {
     match text {
-        NumberingText::First => b"first",
-        NumberingText::Second => b"second",
-        NumberingText::Third => b"third",
+        NumberingText::First => b"first numbering text",
+        NumberingText::Second => b"second numbering text",
+        NumberingText::Third => b"third numbering text",
     }
 }
 
@@ -74,9 +74,9 @@ fn text_label(field: TextField) -> &'static [u8]
         TextField::PostModifier => b"St_PosMod",
         TextField::FullName => b"full name",
         TextField::County => b"county",
-        TextField::Municipality => b"Inc_Muni",
-        TextField::NumberPrefix => b"prefix",
-        TextField::NumberSuffix => b"suffix",
+        TextField::Municipality => b"municipality",
+        TextField::NumberPrefix => b"number prefix",
+        TextField::NumberSuffix => b"number suffix",
         TextField::Unit => b"unit",
     }
 }

@@ -14,7 +14,7 @@ use instant::{Instant, Lifetime};
 use text::{FullName, TextField};
 
 impl<'a, K: BodyKind> Checked<'a, K> {
-    /// The text of the field that has the name; empty where the kind has no such field.
+    /// The text of the field that has the name, whatever an identifier's layer; empty where the kind has no such field.
     pub fn text_named(&self, name: FieldName) -> &'a [u8]
         ensures value { result.now ≡ text_of K.BodyKind.kind self.now.body.bytes.now name }
         ensures names { NamesTell K.BodyKind.kind self.now.body.bytes.now }
@@ -51,7 +51,7 @@ impl<'a, K: BodyKind> Checked<'a, K> {
         ])
     }
 
-    /// From the Effective up to, without, the Expire.
+    /// From the Effective up to, without, the Expire; a kind without these fields lasts from the earliest instant to the latest.
     pub fn lifetime(&self) -> Option<Lifetime>
         ensures { option_map (λ t. from_to t.effective t.expire) result ≡ lifetime_of K.BodyKind.kind self.now.body.bytes.now }
     {
