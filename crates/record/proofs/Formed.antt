@@ -1,6 +1,6 @@
 -- The reasons by the readers' tests are the reasons by the forms. Assumes nothing.
 use Rattle.std.proofs.Common.{Option}
-use Rattle.promise.specs.Reasons.{FirstThatApplies}
+use Rattle.promise.proofs.Reasons.{first_alike}
 use Rattle.territory.specs.declared.numberings.Numbering.{Ghosts}
 use Rattle.delivery.specs.Opened.{Part}
 use Rattle.delivery.specs.declared.kinds.Kind.{Kind}
@@ -9,14 +9,6 @@ use Rattle.record.specs.Rules.{Applies, RefusedRightly}
 use Rattle.record.specs.declared.refusals.BodyRefusal.{BodyRefusal}
 use Rattle.record.specs.declared.refusals.BodyRefusal.TheVariants.{Broken, Field, Lifetime}
 use Rattle.record.proofs.Judged.{fault_decides, lifetime_decides}
-
--- reasons that apply to the same are given to the same
-first_alike : {R : Type 0} {A B : R → Type 0} {Before : R → R → Type 0} {refusal : Option R} → ((r : R) → A r → B r) → ((r : R) → B r → A r) → FirstThatApplies A Before refusal → FirstThatApplies B Before refusal
-first_alike to from f = record {
-  applies = λ r h. to r (f.applies r h);
-  first = λ r s h b. f.first r s h (from s b);
-  none = λ h r b. f.none h r (from r b);
-}
 
 module _ {N P : Type 0} (m : Ghosts N P) (kind : Kind) (body : Part) where
   formed : (r : BodyRefusal) → Applies m kind body r → AppliesByForm m kind body r

@@ -1,5 +1,5 @@
 -- The tests of fields and lifetimes decide what the rules say of them. Assumes nothing.
-use Rattle.std.proofs.Common.{◌≡◌, ℕ, ◌-◌, ◌<◌, Bool, true, false, not, eqb, ◌⊎◌, List, [], ◌∷◌, length, Some, None, Ok, Err, Decides, Option, Result, sym, refl, ap, ◌∙◌, arith}
+use Rattle.std.proofs.Common.{◌≡◌, ℕ, ◌-◌, ◌<◌, Bool, false, eqb, ◌⊎◌, List, [], ◌∷◌, length, Some, None, Ok, Err, Decides, Option, Result, sym, refl, ap, ◌∙◌, arith}
 use Rattle.std.proofs.lemmas.Bool.{true≢false, false≢true, eq-eqb, eqb-true, not-true}
 use Rattle.std.proofs.lemmas.Bool.Decides.{Decides-and, Decides-not, Decides-or}
 use Rattle.promise.specs.Exactly.{Exactly}
@@ -63,14 +63,11 @@ same_ordinal Third Second e = absurd (omega arith)
 same_ordinal Third Third e = refl
 
 module _ {N : Type 0} where
-  err_same : {told which : NumberingText} → ◌≡◌ {A = Result N NumberingText} (Err told) (Err which) → told ≡ which
-  err_same e = cc
-
   blames_decides : (which : NumberingText) (reading : Result N NumberingText) → Decides (blames which reading) (reading ≡ Err which)
-  blames_decides which (Ok numbering) = (λ h. absurd (false≢true h), λ e. absurd (true≢false (let z : true ≡ false = cc in z)))
+  blames_decides which (Ok numbering) = (λ h. absurd (false≢true h), λ e. cc)
   blames_decides which (Err told) = (
     λ h. ap Err (same_ordinal told which (eqb-true (ordinal told) (ordinal which) h)),
-    λ e. eq-eqb (ordinal told) (ordinal which) (ap ordinal (err_same e)),
+    λ e. eq-eqb (ordinal told) (ordinal which) (let same : told ≡ which = cc in ap ordinal same),
   )
 
 never : {b : Bool} → b ≡ false → Decides b ⊥
@@ -93,20 +90,17 @@ module _ {N P : Type 0} (m : Ghosts N P) (kind : Kind) (body : Part) where
   unfolding faulty
   fault_decides index = Decides-or _ _ (text_decides (name_at kind index) (field_text body.bytes index)) (misread_decides (name_at kind index) index)
 
-some_same : {V : Type 0} {v w : V} → Some v ≡ Some w → v ≡ w
-some_same e = cc
-
 -- both instants are read, and the first is not before the second
 module _ (Begins Ends : Instant → Type 0) where
   abbrev Late : Type 0
   Late = (effective : Instant) × (expire : Instant) × Begins effective × Ends expire × (instant_before effective expire ≡ false)
 
   no_time_decides : (effective expire : Option Instant) → Exactly Begins effective → Exactly Ends expire → Decides (no_time effective expire) Late
-  no_time_decides None expire begins ends = (λ h. absurd (false≢true h), λ w. absurd (true≢false (let e = begins.complete w.0 w.2 in let z : true ≡ false = cc in z)))
-  no_time_decides (Some effective) None begins ends = (λ h. absurd (false≢true h), λ w. absurd (true≢false (let e = ends.complete w.1 w.3 in let z : true ≡ false = cc in z)))
+  no_time_decides None expire begins ends = (λ h. absurd (false≢true h), λ w. let e = begins.complete w.0 w.2 in cc)
+  no_time_decides (Some effective) None begins ends = (λ h. absurd (false≢true h), λ w. let e = ends.complete w.1 w.3 in cc)
   no_time_decides (Some effective) (Some expire) begins ends = (
     λ h. (effective, expire, begins.sound effective refl, ends.sound expire refl, not-true (instant_before effective expire) h),
-    λ w. ap not (ap (λ from. instant_before from expire) (some_same (begins.complete w.0 w.2)) ∙ ap (instant_before w.0) (some_same (ends.complete w.1 w.3)) ∙ w.4),
+    λ w. let from = begins.complete w.0 w.2 in let until = ends.complete w.1 w.3 in let late = w.4 in cc,
   )
 
 -- the two times by their names

@@ -1,15 +1,13 @@
 -- Another numbering refuses a passed body for a numbering text or a place alone. Assumes nothing.
-use Rattle.std.proofs.Common.{◌≡◌, ℕ, Bool, true, false, cond, ◌||◌, List, Some, None, Option, refl, sym, subst, ◌∙◌, arith}
-use Rattle.std.proofs.lemmas.Bool.{true≢false, false≢true}
+use Rattle.std.proofs.Common.{◌≡◌, ℕ, Bool, true, false, cond, List, Some, None, Option, refl, sym, subst, ◌∙◌, arith}
 use Rattle.std.specs.Option.{option_map, option_or}
 use Rattle.promise.specs.First.{first_below}
 use Rattle.promise.proofs.Firsts.{first_found}
 use Rattle.territory.specs.declared.numberings.Numbering.{Ghosts}
 use Rattle.delivery.specs.Opened.{Part}
 use Rattle.delivery.specs.declared.kinds.Kind.{Kind}
-use Rattle.record.specs.Bodies.{field_text}
 use Rattle.record.specs.Checking.{fault_told, faulty, field_count, refusal_of}
-use Rattle.record.specs.Judging.{faulty_text, misread}
+use Rattle.record.specs.Judging.{misread}
 use Rattle.record.specs.Layouts.{layout}
 use Rattle.record.specs.Named.{name_at}
 use Rattle.record.specs.Passing.{FollowsNumbering, LeftToNumbering, OfNumbering, Passes}
@@ -18,28 +16,18 @@ use Rattle.record.specs.declared.field_names.FieldName.TheVariants.{Identifier, 
 use Rattle.record.specs.declared.refusals.BodyRefusal.{BodyRefusal}
 use Rattle.record.specs.declared.refusals.BodyRefusal.TheVariants.{Broken, Lifetime}
 
-some_none : {A : Type 0} {x : A} → Some x ≡ None → ⊥
-some_none e = true≢false (let z : true ≡ false = cc in z)
-
-some_same : {A : Type 0} {x y : A} → Some x ≡ Some y → x ≡ y
-some_same e = cc
-
-other : (a b : Bool) → a ≡ false → (a || b) ≡ true → b ≡ true
-other true b e h = absurd (true≢false e)
-other false b e h = h
-
 module _ {N P : Type 0} (m : Ghosts N P) where
   follows : (name : FieldName) (body : List ℕ) (index : ℕ) → misread m name body index ≡ true → FollowsNumbering name
-  follows (Identifier which) body index e = absurd (false≢true e)
-  follows RoadIdentifier body index e = absurd (false≢true e)
-  follows (Text field) body index e = absurd (false≢true e)
-  follows (SideText side field) body index e = absurd (false≢true e)
+  follows (Identifier which) body index e = cc
+  follows RoadIdentifier body index e = cc
+  follows (Text field) body index e = cc
+  follows (SideText side field) body index e = cc
   follows (Numbering side which) body index e = tt
   follows Place body index e = tt
-  follows DateUpdate body index e = absurd (false≢true e)
-  follows Effective body index e = absurd (false≢true e)
-  follows Expire body index e = absurd (false≢true e)
-  follows Retirement body index e = absurd (false≢true e)
+  follows DateUpdate body index e = cc
+  follows Effective body index e = cc
+  follows Expire body index e = cc
+  follows Retirement body index e = cc
 
   module _ (kind : Kind) (body : Part) (passed : Passes kind body) where
     abbrev test : ℕ → Bool
@@ -49,13 +37,14 @@ module _ {N P : Type 0} (m : Ghosts N P) where
     unfolding faulty
     at_field i f =
         let found = first_found test (field_count kind) i f in
-        follows (name_at kind i) body.bytes i (other (faulty_text (name_at kind i) (field_text body.bytes i)) (misread m (name_at kind i) body.bytes i) (passed.texts i (omega (arith, found.below))) found.passes)
+        let formed = passed.texts i (omega (arith, found.below)) in
+        follows (name_at kind i) body.bytes i (rw formed at found.passes)
 
     by_parts : (broken fault : Option ℕ) (short : Bool) → broken ≡ None → first_below test (field_count kind) ≡ fault → short ≡ false → (given : BodyRefusal) → option_or (option_map Broken broken) (option_or (option_map (fault_told body) fault) (cond short (Some Lifetime) None)) ≡ Some given → OfNumbering kind given
-    by_parts (Some p) fault short e f g given h = absurd (some_none e)
-    by_parts None (Some i) short e f g given h = subst (OfNumbering kind) (some_same h) (i, refl, at_field i f)
-    by_parts None None true e f g given h = absurd (true≢false g)
-    by_parts None None false e f g given h = absurd (some_none (sym h))
+    by_parts (Some p) fault short e f g given h = cc
+    by_parts None (Some i) short e f g given h = let same : fault_told body i ≡ given = cc in subst (OfNumbering kind) same (i, refl, at_field i f)
+    by_parts None None true e f g given h = cc
+    by_parts None None false e f g given h = cc
 
   pub left_over : (kind : Kind) (body : Part) (refusal : Option BodyRefusal) → refusal ≡ refusal_of m kind body → LeftToNumbering kind body refusal
   left_over kind body refusal same passed given h = by_parts kind body passed _ _ _ passed.whole refl passed.lasting given (sym same ∙ h)

@@ -15,15 +15,10 @@ use text::{FullName, TextField};
 
 impl<'a, K: BodyKind> Checked<'a, K> {
     /// The text of the field that has the name, whatever an identifier's layer; empty where the kind has no such field.
+    #[tactic(auto, using(crate::proofs::NamedTexts::names_tell))]
     pub fn text_named(&self, name: FieldName) -> &'a [u8]
         ensures value { result.now ≡ text_of K.BodyKind.kind self.now.body.bytes.now name }
         ensures names { NamesTell K.BodyKind.kind self.now.body.bytes.now }
-    {
-        self.named(name)
-    }
-
-    fn named(&self, name: FieldName) -> &'a [u8]
-        ensures { result.now ≡ text_of K.BodyKind.kind self.now.body.bytes.now name }
     {
         text_named(K::kind(), self.body, name)
     }
