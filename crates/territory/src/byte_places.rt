@@ -5,7 +5,7 @@ ghost use Rattle.territory.specs.Laws.Numbered.{by_number};
 use crate::Bound;
 
 /// A place counted in bytes from the start of a delivery.
-#[derive(Clone, Copy)]
+#[derive(Clone, Copy, Debug, PartialEq, Eq, PartialOrd, Ord)]
 pub struct BytePlace {
     pub at: usize,
 }
@@ -18,10 +18,10 @@ impl Bound for BytePlace {
     ghost total = { by_number (λ p. p.at) };
 
     fn precedes(self, other: BytePlace) -> bool {
-        self.at < other.at
+        self < other
     }
 
     fn is_level_with(self, other: BytePlace) -> bool {
-        self.at == other.at
+        self == other
     }
 }

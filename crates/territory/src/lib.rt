@@ -4,7 +4,7 @@
 
 mod bounds;
 mod byte_places;
-mod byte_spans;
+mod intervals;
 mod numberings;
 mod pairs;
 mod singles;
@@ -13,8 +13,8 @@ mod territories;
 
 pub use bounds::Bound;
 pub use byte_places::BytePlace;
-pub use byte_spans::ByteSpan;
-pub use numberings::{Numbering, NumberingText};
+pub use intervals::{ByteSpan, Interval};
+pub use numberings::{Numbering, NumberingText, PLACE_WIDTH};
 pub use pairs::Pair;
 pub use singles::{Agree, Single};
 pub use stretches::Stretch;

@@ -6,7 +6,7 @@ ghost use Rattle.territory.specs.Places.{WritesPlaces};
 use crate::Territory;
 
 /// Which of the three texts of a numbering.
-#[derive(Clone, Copy)]
+#[derive(Clone, Copy, Debug, PartialEq, Eq)]
 pub enum NumberingText {
     First,
     Second,

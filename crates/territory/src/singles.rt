@@ -43,10 +43,6 @@ impl<V: Agree> Territory for Single<V> {
 
     // Two that meet tell the value of the one that asks.
     fn common(&self, other: &Self) -> Option<V> {
-        if self.value.agrees(other.value) {
-            Some(self.value)
-        } else {
-            None
-        }
+        self.value.agrees(other.value).then_some(self.value)
     }
 }

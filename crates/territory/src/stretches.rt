@@ -34,11 +34,7 @@ impl<B: Bound> Territory for Stretch<B> {
     fn common(&self, other: &Self) -> Option<B> {
         let first = later_of(self.first, other.first);
         let end = earlier_of(self.end, other.end);
-        if first.precedes(end) {
-            Some(first)
-        } else {
-            None
-        }
+        first.precedes(end).then_some(first)
     }
 }
 

@@ -27,14 +27,8 @@ pub trait Territory {
         ensures value { result ≡ not (is_some (common self.now self.now)) }
         ensures meaning { Decides result (HoldsNothing holds self.now) }
     {
-        is_untold(self.common(self))
+        self.common(self).is_none()
     }
 
     ghost lawful: { Lawful holds same common };
-}
-
-fn is_untold<P: Copy>(point: Option<P>) -> bool
-    ensures { result ≡ not (is_some point) }
-{
-    point.is_none()
 }
