@@ -6,7 +6,7 @@ ghost use Rattle.text.specs.AddressNumber.{NotPast, NumberText, ReadsBack, digit
 const MOST_DIGITS: usize = 6;
 
 /// A number of an address. A plain value: any `u32` can stand in a table; those read are at most 999999.
-#[derive(Clone, Copy)]
+#[derive(Clone, Copy, Debug, PartialEq, Eq)]
 pub struct AddressNumber {
     pub value: u32,
 }

@@ -7,7 +7,7 @@ use crate::bytes::{Alphabet, same_bytes};
 use crate::full_name::FULL_NAME_WIDTH;
 
 /// A field that holds plain text.
-#[derive(Clone, Copy)]
+#[derive(Clone, Copy, Debug, PartialEq, Eq)]
 pub enum TextField {
     PreModifier,
     PreDirectional,

@@ -11,7 +11,7 @@ const NGUID_WIDTH: usize = 254;
 const FRONT: &[u8] = b"urn:emergency:uid:gis:";
 
 /// What an NGUID identifies.
-#[derive(Clone, Copy)]
+#[derive(Clone, Copy, Debug, PartialEq, Eq)]
 pub enum Layer {
     Road,
     AddressPoint,
@@ -32,7 +32,7 @@ impl Layer {
 }
 
 /// The parts of an NGUID that tell it from the others of its layer.
-#[derive(Clone, Copy)]
+#[derive(Clone, Copy, Debug, PartialEq, Eq)]
 pub struct Nguid<'a> {
     pub local: &'a [u8],
     pub agency: &'a [u8],
