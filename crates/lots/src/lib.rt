@@ -8,14 +8,14 @@ ghost use Rattle.std.proofs.Common.{rules, arith};
 ghost use Rattle.std.proofs.lemmas.Bool.{eq-eqb};
 ghost use Rattle.lots.specs.Laws.LotsWritten.{one_digit, back};
 
-use territory::{Numbering, NumberingText, Territory};
+use territory::{Numbering, NumberingText, PLACE_WIDTH, Territory};
 
-#[derive(Clone, Copy)]
+#[derive(Clone, Copy, Debug, PartialEq, Eq)]
 pub struct Lot {
     pub number: u8,
 }
 
-#[derive(Clone, Copy)]
+#[derive(Clone, Copy, Debug, PartialEq, Eq)]
 pub struct Lots {
     pub first: u8,
     pub last: u8,
@@ -37,16 +37,12 @@ impl Territory for Lots {
     }
 
     fn same(a: Lot, b: Lot) -> bool {
-        a.number == b.number
+        a == b
     }
 
     fn common(&self, other: &Self) -> Option<Lot> {
         let number = self.first.max(other.first);
-        if number <= self.last.min(other.last) {
-            Some(Lot { number })
-        } else {
-            None
-        }
+        (number <= self.last.min(other.last)).then_some(Lot { number })
     }
 }
 
@@ -64,13 +60,9 @@ impl Numbering for Lots {
     } };
 
     fn read(first: &[u8], second: &[u8], third: &[u8]) -> Result<Lots, NumberingText> {
-        let Some(first) = read_lot(first) else {
-            return Err(NumberingText::First);
-        };
-        let Some(last) = read_lot(second) else {
-            return Err(NumberingText::Second);
-        };
-        if third.len() > 0 {
+        let first = read_lot(first).ok_or(NumberingText::First)?;
+        let last = read_lot(second).ok_or(NumberingText::Second)?;
+        if !third.is_empty() {
             return Err(NumberingText::Third);
         }
         Ok(Lots {
@@ -83,7 +75,7 @@ impl Numbering for Lots {
         read_lot(text)
     }
 
-    fn write_place(point: Lot, out: &mut [u8; 14]) -> usize {
+    fn write_place(point: Lot, out: &mut [u8; PLACE_WIDTH]) -> usize {
         out[0] = b'0' + point.number % 10;
         1
     }
@@ -93,10 +85,10 @@ impl Numbering for Lots {
 fn read_lot(text: &[u8]) -> Option<Lot>
     ensures { result ≡ lot_of text.now }
 {
-    if text.len() != 1 || text[0] < b'0' || text[0] > b'9' {
-        return None;
+    match text {
+        [digit @ b'0'..=b'9'] => Some(Lot {
+            number: digit - b'0',
+        }),
+        _ => None,
     }
-    Some(Lot {
-        number: text[0] - b'0',
-    })
 }

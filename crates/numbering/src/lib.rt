@@ -4,6 +4,7 @@
 
 mod hexadecimal;
 mod mark_sets;
+mod number_sets;
 mod parities;
 mod ranges;
 

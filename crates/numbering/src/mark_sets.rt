@@ -11,7 +11,8 @@ ghost use Rattle.numbering.specs.Laws.MarkLaws.{bounded};
 ghost use Rattle.numbering.specs.Laws.PlaceLaws.{places_written};
 
 use crate::hexadecimal::read_hexadecimal;
-use territory::{Numbering, NumberingText, Territory};
+use crate::number_sets::NumberSet;
+use territory::{Numbering, NumberingText, PLACE_WIDTH, Territory};
 use text::AddressNumber;
 
 const GREATEST_NUMBER: u32 = 999_999;
@@ -20,17 +21,20 @@ const GREATEST_NUMBER: u32 = 999_999;
 const GREATEST_FIRST: u32 = 999_936;
 
 /// Number `first + i` is held where bit `i` is set, up to the greatest number. Plain values: any can stand in a table.
-#[derive(Clone, Copy)]
+#[derive(Clone, Copy, Debug, PartialEq, Eq)]
 pub struct Marks {
     pub first: u32,
     pub bits: u64,
 }
 
-impl Marks {
-    // What both hold are marks too.
-    fn shared(&self, other: &Marks) -> Marks
-        ensures { (n : ℕ) → marks_hold result n ≡ both_hold marks_hold self.now other.now n }
-    {
+impl NumberSet for Marks {
+    ghost holds = { marks_hold };
+
+    ghost past = { marks_past };
+
+    ghost bounded = { bounded };
+
+    fn shared(&self, other: &Marks) -> Marks {
         let first = self.first.max(other.first);
         Marks {
             first,
@@ -39,10 +43,7 @@ impl Marks {
         }
     }
 
-    // The least number that it holds.
-    fn least(&self) -> Option<AddressNumber>
-        ensures { Least marks_hold self.now self.now result }
-    {
+    fn least(&self) -> Option<AddressNumber> {
         if self.bits == 0 || self.first > GREATEST_NUMBER {
             return None;
         }
@@ -73,14 +74,14 @@ impl Territory for Marks {
     }
 
     fn same(a: AddressNumber, b: AddressNumber) -> bool {
-        a.value == b.value
+        a == b
     }
 
     fn common(&self, other: &Self) -> Option<AddressNumber>
         ensures value { result ≡ least_shared marks_hold marks_past self.now other.now }
         ensures least { Least marks_hold self.now other.now result }
     {
-        self.shared(other).least()
+        self.least_shared(other)
     }
 }
 
@@ -106,7 +107,7 @@ impl Numbering for Marks {
         AddressNumber::read(text)
     }
 
-    fn write_place(point: AddressNumber, out: &mut [u8; 14]) -> usize {
+    fn write_place(point: AddressNumber, out: &mut [u8; PLACE_WIDTH]) -> usize {
         point.write(out)
     }
 }
@@ -114,12 +115,8 @@ impl Numbering for Marks {
 fn read_marks(first: &[u8], bits: &[u8], rest: &[u8]) -> Result<Marks, NumberingText>
     ensures { result ≡ marks_reading first.now bits.now rest.now }
 {
-    let Some(first) = read_first(first) else {
-        return Err(NumberingText::First);
-    };
-    let Some(bits) = read_hexadecimal(bits) else {
-        return Err(NumberingText::Second);
-    };
+    let first = read_first(first).ok_or(NumberingText::First)?;
+    let bits = read_hexadecimal(bits).ok_or(NumberingText::Second)?;
     if !rest.is_empty() {
         return Err(NumberingText::Third);
     }
@@ -132,12 +129,7 @@ fn read_marks(first: &[u8], bits: &[u8], rest: &[u8]) -> Result<Marks, Numbering
 fn read_first(text: &[u8]) -> Option<AddressNumber>
     ensures { result ≡ first_number text.now }
 {
-    let first = AddressNumber::read(text)?;
-    if first.value <= GREATEST_FIRST {
-        Some(first)
-    } else {
-        None
-    }
+    AddressNumber::read(text).filter(|first| first.value <= GREATEST_FIRST)
 }
 
 // The bits from a place on: none where the place is past them.

@@ -2,7 +2,7 @@
 ghost use Rattle.std.specs.Prelude.{◌≡◌, ℕ, ◌&&◌};
 ghost use Rattle.numbering.specs.Parities.{agrees, allows, parity_of};
 
-#[derive(Clone, Copy)]
+#[derive(Clone, Copy, Debug, PartialEq, Eq)]
 pub enum Parity {
     Odd,
     Even,
@@ -15,10 +15,10 @@ impl Parity {
     pub(crate) fn read(text: &[u8]) -> Option<Parity>
         ensures { result ≡ parity_of text.now }
     {
-        if text.len() != 1 {
+        let [letter] = text else {
             return None;
-        }
-        match text[0] as char {
+        };
+        match *letter as char {
             'O' => Some(Parity::Odd),
             'E' => Some(Parity::Even),
             'B' => Some(Parity::Both),

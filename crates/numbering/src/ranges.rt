@@ -11,11 +11,12 @@ ghost use Rattle.numbering.specs.Laws.RangeLaws.{bounded};
 ghost use Rattle.numbering.specs.Laws.PlaceLaws.{places_written};
 
 use crate::Parity;
-use territory::{Numbering, NumberingText, Territory};
+use crate::number_sets::NumberSet;
+use territory::{Numbering, NumberingText, PLACE_WIDTH, Territory};
 use text::AddressNumber;
 
 /// Plain values: any numbers can stand in a table, and either end can be the smaller one.
-#[derive(Clone, Copy)]
+#[derive(Clone, Copy, Debug, PartialEq, Eq)]
 pub struct Range {
     pub from: u32,
     pub to: u32,
@@ -34,11 +35,16 @@ impl Range {
     {
         self.from.max(self.to)
     }
+}
 
-    // What both hold is a range too.
-    fn shared(&self, other: &Range) -> Range
-        ensures { (n : ℕ) → range_holds result n ≡ both_hold range_holds self.now other.now n }
-    {
+impl NumberSet for Range {
+    ghost holds = { range_holds };
+
+    ghost past = { range_past };
+
+    ghost bounded = { bounded };
+
+    fn shared(&self, other: &Range) -> Range {
         let from = self.low().max(other.low());
         let to = self.high().min(other.high());
         let parity = if from <= to {
@@ -49,10 +55,8 @@ impl Range {
         Range { from, to, parity }
     }
 
-    // The least number that it holds: of two in a row each parity but Neither allows one.
-    fn least(&self) -> Option<AddressNumber>
-        ensures { Least range_holds self.now self.now result }
-    {
+    // Of two numbers in a row each parity but Neither allows one.
+    fn least(&self) -> Option<AddressNumber> {
         let low = self.low();
         if self.parity.allows(low) {
             Some(AddressNumber { value: low })
@@ -80,14 +84,14 @@ impl Territory for Range {
     }
 
     fn same(a: AddressNumber, b: AddressNumber) -> bool {
-        a.value == b.value
+        a == b
     }
 
     fn common(&self, other: &Self) -> Option<AddressNumber>
         ensures value { result ≡ least_shared range_holds range_past self.now other.now }
         ensures least { Least range_holds self.now other.now result }
     {
-        self.shared(other).least()
+        self.least_shared(other)
     }
 }
 
@@ -113,7 +117,7 @@ impl Numbering for Range {
         AddressNumber::read(text)
     }
 
-    fn write_place(point: AddressNumber, out: &mut [u8; 14]) -> usize {
+    fn write_place(point: AddressNumber, out: &mut [u8; PLACE_WIDTH]) -> usize {
         point.write(out)
     }
 }
@@ -121,18 +125,11 @@ impl Numbering for Range {
 fn read_range(from: &[u8], to: &[u8], parity: &[u8]) -> Result<Range, NumberingText>
     ensures { result ≡ range_reading from.now to.now parity.now }
 {
-    let Some(from) = AddressNumber::read(from) else {
-        return Err(NumberingText::First);
-    };
-    let Some(to) = AddressNumber::read(to) else {
-        return Err(NumberingText::Second);
-    };
-    let Some(parity) = Parity::read(parity) else {
-        return Err(NumberingText::Third);
-    };
-    if !parity.agrees(from.value, to.value) {
-        return Err(NumberingText::Third);
-    }
+    let from = AddressNumber::read(from).ok_or(NumberingText::First)?;
+    let to = AddressNumber::read(to).ok_or(NumberingText::Second)?;
+    let parity = Parity::read(parity)
+        .filter(|parity| parity.agrees(from.value, to.value))
+        .ok_or(NumberingText::Third)?;
     Ok(Range {
         from: from.value,
         to: to.value,

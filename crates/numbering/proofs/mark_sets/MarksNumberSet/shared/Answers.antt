@@ -1,6 +1,6 @@
 use Rattle.std.proofs.Common.{arith}
 use Rattle.numbering.specs.Laws.MarkLaws.{shares}
-use Rattle.numbering.proofs.mark_sets.Marks.shared.Goals as goal
+use Rattle.numbering.proofs.mark_sets.MarksNumberSet.shared.Goals as goal
 
 pub returns : goal.returns
 returns c =

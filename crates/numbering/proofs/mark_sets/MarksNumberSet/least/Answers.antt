@@ -1,7 +1,7 @@
 use Rattle.std.proofs.Common.{arith}
 use Rattle.numbering.specs.Laws.MarkLaws.{at_lowest, lowest_past, none_marked, past_greatest}
-use Rattle.numbering.proofs.mark_sets.Marks.least.Goals as goal
-use Rattle.numbering.proofs.mark_sets.Marks.least.Goals.{then-self-eq0-via-then-self-eq0, then-self-eq0-via-else-self-eq0+then-self-gt-GREATEST_NUMBER}
+use Rattle.numbering.proofs.mark_sets.MarksNumberSet.least.Goals as goal
+use Rattle.numbering.proofs.mark_sets.MarksNumberSet.least.Goals.{then-self-eq0-via-then-self-eq0, then-self-eq0-via-else-self-eq0+then-self-gt-GREATEST_NUMBER}
 
 pub returns-then-self-eq0 : goal.returns-then-self-eq0
 returns-then-self-eq0 c =
