@@ -8,6 +8,7 @@ ghost use Rattle.std.proofs.Common.{rules, arith};
 ghost use Rattle.std.proofs.lemmas.Bool.{eq-eqb};
 ghost use Rattle.lots.specs.Laws.LotsWritten.{one_digit, back};
 
+use arrayvec::ArrayVec;
 use territory::{Numbering, NumberingText, PLACE_WIDTH, Territory};
 
 #[derive(Clone, Copy, Debug, PartialEq, Eq)]
@@ -75,9 +76,10 @@ impl Numbering for Lots {
         read_lot(text)
     }
 
-    fn write_place(point: Lot, out: &mut [u8; PLACE_WIDTH]) -> usize {
-        out[0] = b'0' + point.number % 10;
-        1
+    fn write_place(point: Lot) -> ArrayVec<u8, PLACE_WIDTH> {
+        let mut out = ArrayVec::new();
+        out.push(b'0' + point.number % 10);
+        out
     }
 }
 

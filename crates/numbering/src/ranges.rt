@@ -12,6 +12,7 @@ ghost use Rattle.numbering.specs.Laws.PlaceLaws.{places_written};
 
 use crate::Parity;
 use crate::number_sets::NumberSet;
+use arrayvec::ArrayVec;
 use territory::{Numbering, NumberingText, PLACE_WIDTH, Territory};
 use text::AddressNumber;
 
@@ -117,8 +118,8 @@ impl Numbering for Range {
         AddressNumber::read(text)
     }
 
-    fn write_place(point: AddressNumber, out: &mut [u8; PLACE_WIDTH]) -> usize {
-        point.write(out)
+    fn write_place(point: AddressNumber) -> ArrayVec<u8, PLACE_WIDTH> {
+        point.write()
     }
 }
 

@@ -1,9 +1,10 @@
 // A territory of address places that is written as three texts.
-ghost use Rattle.std.specs.Prelude.{◌≡◌, ℕ, List, ◌++◌, length, drop, Option as Maybe, Result as Outcome};
+ghost use Rattle.std.specs.Prelude.{◌≡◌, ℕ, List, Option as Maybe, Result as Outcome};
 ghost use Rattle.territory.specs.declared.numberings.NumberingText.{NumberingText as Text};
 ghost use Rattle.territory.specs.Places.{WritesPlaces};
 
 use crate::Territory;
+use arrayvec::ArrayVec;
 
 /// Which of the three texts of a numbering.
 #[derive(Clone, Copy, Debug, PartialEq, Eq)]
@@ -13,6 +14,7 @@ pub enum NumberingText {
     Third,
 }
 
+/// The most bytes that the text of a place has.
 pub const PLACE_WIDTH: usize = 14;
 
 /// A way of numbering houses: a territory of places that is read from three texts.
@@ -31,10 +33,9 @@ pub trait Numbering: Territory + Copy {
     fn read_place(text: &[u8]) -> Option<Self::Point>
         ensures { result ≡ place text.now };
 
-    /// Writes a place at the front of `out`, and tells how many bytes it took.
-    fn write_place(point: Self::Point, out: &mut [u8; PLACE_WIDTH]) -> usize
-        ensures count { result ≡ length (written point) }
-        ensures bytes { out.new ≡ written point ++ drop result out.old };
+    /// The text of a place.
+    fn write_place(point: Self::Point) -> ArrayVec<u8, PLACE_WIDTH>
+        ensures { result.items ≡ written point };
 
     ghost writes: { WritesPlaces Self.Territory.same place written };
 }

@@ -1,9 +1,15 @@
 // Address numbers, and the decimal texts that they are read from and written as.
-ghost use Rattle.std.specs.Prelude.{◌≡◌, ◌≤◌, ◌++◌, length, drop, decimal};
+ghost use Rattle.std.specs.Prelude.{◌≡◌, ◌≤◌, length};
 ghost use Rattle.promise.specs.Exactly.{Exactly};
 ghost use Rattle.text.specs.AddressNumber.{NotPast, NumberText, ReadsBack, digits_value, most_digits, read_number, written_number, written_width};
 
+use arrayvec::ArrayVec;
+use itoa::Buffer;
+
 const MOST_DIGITS: usize = 6;
+
+// As wide as the text of a place of any kind.
+const WRITTEN_WIDTH: usize = 14;
 
 /// A number of an address. A plain value: any `u32` can stand in a table; those read are at most 999999.
 #[derive(Clone, Copy, Debug, PartialEq, Eq)]
@@ -22,13 +28,15 @@ impl AddressNumber {
         read_number(text)
     }
 
-    /// Writes the decimal digits at the front of `out`, and tells how many.
-    pub fn write(self, out: &mut [u8; 14]) -> usize
-        ensures count { result ≡ length (written_number self) }
-        ensures writes { out.new ≡ written_number self ++ drop result out.old }
-        ensures width { (1 ≤ result) × (result ≤ written_width) }
+    /// The decimal digits.
+    pub fn write(self) -> ArrayVec<u8, WRITTEN_WIDTH>
+        ensures writes { result.items ≡ written_number self }
+        ensures width { (1 ≤ length result.items) × (length result.items ≤ written_width) }
     {
-        put_digits(self.value, out)
+        let mut out = ArrayVec::new();
+        out.try_extend_from_slice(Buffer::new().format(self.value).as_bytes())
+            .unwrap();
+        out
     }
 }
 
@@ -57,20 +65,4 @@ fn digits_value(text: &[u8]) -> Option<u32>
         value = value * 10 + u32::from(*byte - b'0');
     }
     Some(value)
-}
-
-// Writes the decimal digits at the front of `out`, and tells how many.
-fn put_digits(number: u32, out: &mut [u8]) -> usize
-    requires { 10 ≤ length out.old }
-    ensures count { result ≡ length (decimal number) }
-    ensures writes { out.new ≡ decimal number ++ drop result out.old }
-    ensures few { (1 ≤ result) × (result ≤ 10) }
-{
-    let before = if number < 10 {
-        0
-    } else {
-        put_digits(number / 10, out)
-    };
-    out[before] = b'0' + (number % 10) as u8;
-    before + 1
 }
