@@ -10,10 +10,10 @@ use crate::Territory;
 pub trait Agree: Copy {
     ghost agree: { Self → Self → Bool };
 
-    ghost equivalence: { Equivalence agree };
-
     fn agrees(self, other: Self) -> bool
         ensures { result ≡ agree self other };
+
+    ghost equivalence: { Equivalence agree };
 }
 
 /// Holds the values that agree with one.
