@@ -1,23 +1,23 @@
 -- What the tests on bytes tell.
-use Rattle.std.proofs.Common.{◌≡◌, ℕ, List, Decides, refl, arith, rules}
-use Rattle.std.specs.List.{AllByRecursion}
-use Rattle.std.proofs.lemmas.Slice.Eq.{compares_Decides}
-use Rattle.std.proofs.lemmas.Bool.Decides.{nat_tests}
-use Rattle.std.proofs.ByRecursion.{Decides-by_and}
-use Rattle.text.specs.Bytes.{Allowed, allows, every_byte, same_bytes}
-use Rattle.text.specs.declared.bytes.Alphabet.{Alphabet}
-use Rattle.text.specs.declared.bytes.Alphabet.TheVariants.{Printable, LocalIdentifier, Agency}
+use Rattle.std.proofs.Common.{◌≡◌, ℕ, Bool, List, Decides, refl, arith}
+use Rattle.std.specs.List.{All, list_all}
+use Rattle.std.proofs.lemmas.Slice.Eq.{bytes_eq-Decides}
+use Rattle.std.proofs.lemmas.Bool.Decides.{Decides-by_and, nat_tests}
+use Rattle.text.specs.Bytes.{IsAgencyByte, IsLocalByte, IsPrintable, is_agency_byte, is_local_byte, is_printable, same_bytes}
 
 pub same_bytes_decides : (xs ys : List ℕ) → Decides (same_bytes xs ys) (xs ≡ ys)
 unfolding same_bytes
-same_bytes_decides = compares_Decides same_bytes (search rules)
+same_bytes_decides = bytes_eq-Decides
 
-allows_decides : (kind : Alphabet) (byte : ℕ) → Decides (allows kind byte) (Allowed kind byte)
-allows_decides Printable byte = grind (arith, nat_tests)
-allows_decides LocalIdentifier byte = grind (arith, nat_tests)
-allows_decides Agency byte = grind (arith, nat_tests)
+all_decides : (test : ℕ → Bool) (P : ℕ → Type 0) → ((byte : ℕ) → Decides (test byte) (P byte))
+    → (text : List ℕ) → Decides (list_all test text) (All P text)
+all_decides test P each = Decides-by_and test P (list_all test) each refl (λ _ _. refl)
 
-pub every_byte_decides : (kind : Alphabet) (text : List ℕ) → Decides (every_byte kind text) (AllByRecursion (Allowed kind) text)
-unfolding every_byte
-every_byte_decides kind =
-    Decides-by_and (allows kind) (Allowed kind) (every_byte kind) (allows_decides kind) refl (λ _ _. refl)
+pub printable_decides : (text : List ℕ) → Decides (list_all is_printable text) (All IsPrintable text)
+printable_decides = all_decides _ IsPrintable (λ byte. grind (arith, nat_tests))
+
+pub local_decides : (text : List ℕ) → Decides (list_all is_local_byte text) (All IsLocalByte text)
+local_decides = all_decides _ IsLocalByte (λ byte. grind (arith, nat_tests))
+
+pub agency_decides : (text : List ℕ) → Decides (list_all is_agency_byte text) (All IsAgencyByte text)
+agency_decides = all_decides _ IsAgencyByte (λ byte. grind (arith, nat_tests))

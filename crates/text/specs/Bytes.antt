@@ -1,26 +1,29 @@
 -- Texts byte by byte: which are the same, and which bytes a kind of text is made of. Assumes nothing.
-use Rattle.std.specs.Prelude.{◌≡◌, ℕ, ◌≤◌, Bool, true, false, not, ◌&&◌, ◌||◌, ◌≢◌, ◌⊎◌, List, [], ◌∷◌, ◌==◌, nat_le}
+use Rattle.std.specs.Prelude.{◌≡◌, ℕ, ◌≤◌, Bool, not, ◌&&◌, ◌||◌, ◌≢◌, ◌⊎◌, List, ◌==◌, nat_le}
 use Rattle.std.specs.Char.{IsAsciiAlphanumeric, is_ascii_alphanumeric}
-use Rattle.text.specs.declared.bytes.Alphabet.{Alphabet}
-use Rattle.text.specs.declared.bytes.Alphabet.TheVariants.{Printable, LocalIdentifier, Agency}
+use Rattle.std.specs.Str.{bytes_eq}
 
+-- the same bytes in the same order
 unfoldable pub same_bytes : List ℕ → List ℕ → Bool
-same_bytes [] [] = true
-same_bytes [] (y ∷ ys) = false
-same_bytes (x ∷ xs) [] = false
-same_bytes (x ∷ xs) (y ∷ ys) = x == y && same_bytes xs ys
+same_bytes a b = bytes_eq a b
 
-abbrev pub allows : Alphabet → ℕ → Bool
-allows Printable byte = nat_le 32 byte && nat_le byte 126
-allows LocalIdentifier byte = nat_le 33 byte && (nat_le byte 126 && not (byte == 58))
-allows Agency byte = is_ascii_alphanumeric byte || (byte == 45 || byte == 46)
+-- a byte of plain texts: from space to tilde
+abbrev pub is_printable : ℕ → Bool
+is_printable byte = nat_le 32 byte && nat_le byte 126
 
-unfoldable pub every_byte : Alphabet → List ℕ → Bool
-every_byte kind [] = true
-every_byte kind (byte ∷ bytes) = allows kind byte && every_byte kind bytes
+abbrev pub IsPrintable : ℕ → Type 0
+IsPrintable byte = (32 ≤ byte) × (byte ≤ 126)
 
--- from space to tilde; the same without space and colon; letters, digits, hyphens and dots
-abbrev pub Allowed : Alphabet → ℕ → Type 0
-Allowed Printable byte = (32 ≤ byte) × (byte ≤ 126)
-Allowed LocalIdentifier byte = (33 ≤ byte) × (byte ≤ 126) × (byte ≢ 58)
-Allowed Agency byte = IsAsciiAlphanumeric byte ⊎ ((byte ≡ 45) ⊎ (byte ≡ 46))
+-- of local identifiers: the same without space and colon
+abbrev pub is_local_byte : ℕ → Bool
+is_local_byte byte = nat_le 33 byte && (nat_le byte 126 && not (byte == 58))
+
+abbrev pub IsLocalByte : ℕ → Type 0
+IsLocalByte byte = (33 ≤ byte) × (byte ≤ 126) × (byte ≢ 58)
+
+-- of agencies: letters, digits, hyphens and dots
+abbrev pub is_agency_byte : ℕ → Bool
+is_agency_byte byte = is_ascii_alphanumeric byte || (byte == 45 || byte == 46)
+
+abbrev pub IsAgencyByte : ℕ → Type 0
+IsAgencyByte byte = IsAsciiAlphanumeric byte ⊎ ((byte ≡ 45) ⊎ (byte ≡ 46))

@@ -1,10 +1,9 @@
 -- The form of plain fields: printable bytes, no space at either end, and for the directionals one of eight words.
 -- The empty text has it: a field may be missing. Assumes nothing.
-use Rattle.std.specs.Prelude.{◌≡◌, ℕ, ◌-◌, ◌≤◌, Bool, true, false, not, ◌&&◌, ◌||◌, ◌≢◌, ◌⊎◌, List, [], ◌∷◌, ◌++◌, length, codes, ◌==◌, nat_le, slice_index}
-use Rattle.std.specs.List.{ContainsAt, AllByRecursion}
-use Rattle.text.specs.Bytes.{Allowed, every_byte, same_bytes}
+use Rattle.std.specs.Prelude.{◌≡◌, ℕ, ◌≤◌, Bool, true, false, not, ◌&&◌, ◌||◌, ◌≢◌, ◌⊎◌, List, [], ◌∷◌, ◌++◌, length, codes, ◌==◌, nat_eq, nat_le}
+use Rattle.std.specs.List.{All, Contains, ends_with, list_all, list_any, starts_with}
+use Rattle.text.specs.Bytes.{IsPrintable, is_printable, same_bytes}
 use Rattle.text.specs.Widths.{width_of}
-use Rattle.text.specs.declared.bytes.Alphabet.TheVariants.{Printable}
 use Rattle.text.specs.declared.field_text.TextField.{TextField}
 use Rattle.text.specs.declared.field_text.TextField.TheVariants.{PreModifier, PreDirectional, PreType, PreSeparator, StreetName, PostType, PostDirectional, PostModifier, FullName, County, Municipality, NumberPrefix, NumberSuffix, Unit}
 
@@ -30,15 +29,14 @@ is_directional NumberSuffix = false
 is_directional Unit = false
 
 -- the text is one of the words
-unfoldable pub one_of : List (List ℕ) → List ℕ → Bool
-one_of [] text = false
-one_of (word ∷ words) text = same_bytes text word || one_of words text
+abbrev pub one_of : List (List ℕ) → List ℕ → Bool
+one_of words text = list_any (λ word. same_bytes word text) words
 
 -- no space first, none last, within the width, and printable
 abbrev pub is_plain_text : ℕ → List ℕ → Bool
 is_plain_text width text =
-    (not (slice_index text 0 == 32) && not (slice_index text (length text - 1) == 32))
-    && (nat_le (length text) width && every_byte Printable text)
+    (not (starts_with nat_eq text (codes " ")) && not (ends_with nat_eq text (codes " ")))
+    && (nat_le (length text) width && list_all is_printable text)
 
 unfoldable pub is_field_text : TextField → List ℕ → Bool
 is_field_text field text =
@@ -47,8 +45,8 @@ is_field_text field text =
 
 -- the text has the field's form
 pub record FieldText (field : TextField) (text : List ℕ) : Type 0 where
-  pub printable : AllByRecursion (Allowed Printable) text
+  pub printable : All IsPrintable text
   pub within : length text ≤ width_of field
   pub no_first_space : (rest : List ℕ) → text ≢ 32 ∷ rest
   pub no_last_space : (front : List ℕ) → text ≢ front ++ (32 ∷ [])
-  pub direction : is_directional field ≡ true → (text ≡ []) ⊎ ContainsAt directions text
+  pub direction : is_directional field ≡ true → (text ≡ []) ⊎ Contains directions text

@@ -1,9 +1,10 @@
 -- NGUIDs: "urn:emergency:uid:gis:", a layer, a colon, a local identifier, a colon, an agency. Assumes nothing.
-use Rattle.std.specs.Prelude.{◌≡◌, ℕ, ◌<◌, ◌≤◌, Bool, cond, ◌&&◌, List, [], ◌∷◌, ◌++◌, length, Some, None, codes, Option, ◌==◌, nat_le, nat_lt}
-use Rattle.std.specs.List.{AllByRecursion}
-use Rattle.text.specs.Bytes.{Allowed, every_byte}
+use Rattle.std.specs.Prelude.{◌≡◌, ℕ, ◌+◌, ◌<◌, ◌≤◌, Bool, cond, ◌&&◌, List, ◌++◌, length, take, drop, Some, None, codes, Option, ◌==◌, nat_le, nat_lt}
+use Rattle.std.specs.List.{All, list_all, position}
+use Rattle.std.specs.Option.{option_map}
+use Rattle.std.specs.Str.{bytes_eq}
+use Rattle.text.specs.Bytes.{IsAgencyByte, IsLocalByte, is_agency_byte, is_local_byte}
 use Rattle.text.specs.Widths.{nguid_width}
-use Rattle.text.specs.declared.bytes.Alphabet.TheVariants.{LocalIdentifier, Agency}
 use Rattle.text.specs.declared.nguid.Layer.{Layer}
 use Rattle.text.specs.declared.nguid.Layer.TheVariants.{Road, AddressPoint, Alias}
 use Rattle.text.specs.declared.nguid.Nguid.{Nguid}
@@ -39,30 +40,24 @@ pub record NguidText (layer : Layer) (text : List ℕ) (parts : NguidParts) : Ty
   pub whole : text ≡ nguid_text layer parts
   pub within : length text ≤ nguid_width
   pub local_some : 0 < length parts.local
-  pub local_bytes : AllByRecursion (Allowed LocalIdentifier) parts.local
+  pub local_bytes : All IsLocalByte parts.local
   pub agency_some : 0 < length parts.agency
-  pub agency_bytes : AllByRecursion (Allowed Agency) parts.agency
+  pub agency_bytes : All IsAgencyByte parts.agency
 
 -- what follows the front, if the text begins with it
 unfoldable pub after : List ℕ → List ℕ → Option (List ℕ)
-after [] text = Some text
-after (f ∷ fs) [] = None
-after (f ∷ fs) (b ∷ bs) = cond (f == b) (after fs bs) None
+after front text = cond (bytes_eq (take (length front) text) front) (Some (drop (length front) text)) None
 
--- what stands before and after the first colon, where `front` stands before the text
-unfoldable pub split_after : List ℕ → List ℕ → Option NguidParts
-split_after front [] = None
-split_after front (byte ∷ rest) =
-    cond (byte == 58) (Some (record { local = front; agency = rest })) (split_after (front ++ (byte ∷ [])) rest)
-
-abbrev pub colon_split : List ℕ → Option NguidParts
-colon_split text = split_after [] text
+-- what stands before and after the first colon, if there is one
+unfoldable pub colon_split : List ℕ → Option NguidParts
+colon_split text =
+    option_map (λ place. record { local = take place text; agency = drop (place + 1) text }) (position (λ byte. byte == 58) text)
 
 -- both parts have bytes, and only bytes of their alphabet
 abbrev pub has_form : NguidParts → Bool
 has_form parts =
     (nat_lt 0 (length parts.local) && nat_lt 0 (length parts.agency))
-    && (every_byte LocalIdentifier parts.local && every_byte Agency parts.agency)
+    && (list_all is_local_byte parts.local && list_all is_agency_byte parts.agency)
 
 abbrev pub if_formed : NguidParts → Option NguidParts
 if_formed parts = cond (has_form parts) (Some parts) None
@@ -72,6 +67,9 @@ abbrev pub next : {A B : Type 0} → Option A → (A → Option B) → Option B
 next None f = None
 next (Some a) f = f a
 
+-- what follows the front, the layer and a colon, split at its first colon and well formed
 unfoldable pub read_nguid : Layer → List ℕ → Option NguidParts
 read_nguid layer text =
-    cond (nat_le (length text) nguid_width) (next (next (after (nguid_start layer) text) colon_split) if_formed) None
+    cond (nat_le (length text) nguid_width)
+    (next (next (next (next (after nguid_front text) (after (layer_text layer))) (after colon)) colon_split) if_formed)
+    None

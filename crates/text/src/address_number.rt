@@ -19,16 +19,24 @@ pub struct AddressNumber {
 
 impl AddressNumber {
     /// Reads one to six digits, without a leading zero except "0" itself.
+    #[tactic(auto, using(crate::proofs::NumberLaws::number_exactly, crate::proofs::NumberLaws::reads_back), unfolding(crate::specs::AddressNumber::read_number))]
     pub fn read(text: &[u8]) -> Option<AddressNumber>
         ensures reads { result ≡ read_number text.now }
         ensures exactly { Exactly (NumberText text.now) result }
         ensures not_past { NotPast result }
         ensures reads_back { ReadsBack }
     {
-        read_number(text)
+        if text.is_empty() || text.len() > MOST_DIGITS {
+            return None;
+        }
+        if text.len() > 1 && text[0] == b'0' {
+            return None;
+        }
+        digits_value(text).map(|value| AddressNumber { value })
     }
 
     /// The decimal digits.
+    #[tactic(auto, using(std::proofs::lemmas::Fmt::decimal_nonempty))]
     pub fn write(self) -> ArrayVec<u8, WRITTEN_WIDTH>
         ensures writes { result.items ≡ written_number self }
         ensures width { (1 ≤ length result.items) × (length result.items ≤ written_width) }
@@ -40,29 +48,14 @@ impl AddressNumber {
     }
 }
 
-fn read_number(text: &[u8]) -> Option<AddressNumber>
-    ensures { result ≡ read_number text.now }
-{
-    if text.is_empty() || text.len() > MOST_DIGITS {
-        return None;
-    }
-    if text.len() > 1 && text[0] == b'0' {
-        return None;
-    }
-    let value = digits_value(text)?;
-    Some(AddressNumber { value })
-}
-
+#[tactic(auto, unfolding(crate::specs::AddressNumber::digits_value))]
 fn digits_value(text: &[u8]) -> Option<u32>
     requires { length text.now ≤ most_digits }
     ensures { result ≡ digits_value text.now }
 {
     let mut value = 0;
     for byte in text {
-        if !byte.is_ascii_digit() {
-            return None;
-        }
-        value = value * 10 + u32::from(*byte - b'0');
+        value = value * 10 + char::from(*byte).to_digit(10)?;
     }
     Some(value)
 }

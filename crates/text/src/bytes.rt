@@ -1,50 +1,35 @@
-// Bytes of texts: whether two texts are the same, and which bytes a text may have.
+// Bytes of texts: whether two texts are the same, and which bytes a kind of text is made of.
 ghost use Rattle.std.specs.Prelude.{◌≡◌, Decides};
-ghost use Rattle.text.specs.Bytes.{allows, every_byte, same_bytes};
+ghost use Rattle.std.specs.List.{list_all};
+ghost use Rattle.text.specs.Bytes.{is_agency_byte, is_local_byte, is_printable, same_bytes};
 
 /// Whether two texts are the same, byte for byte.
+#[tactic(auto, unfolding(crate::specs::Bytes::same_bytes))]
 pub fn same_bytes(a: &[u8], b: &[u8]) -> bool
-    ensures same { result ≡ same_bytes a.now b.now }
-    ensures decides { Decides result (a.now ≡ b.now) }
-{
-    equal(a, b)
-}
-
-// What `==` tells of slices, in our words.
-fn equal(a: &[u8], b: &[u8]) -> bool
     ensures same { result ≡ same_bytes a.now b.now }
     ensures decides { Decides result (a.now ≡ b.now) }
 {
     a == b
 }
 
-/// The bytes that a kind of text is made of.
-#[derive(Clone, Copy)]
-pub(crate) enum Alphabet {
-    Printable,
-    LocalIdentifier,
-    Agency,
+// Whether each byte is one that a plain text may have.
+pub(crate) fn is_printable(text: &[u8]) -> bool
+    ensures { result ≡ list_all is_printable text.now }
+{
+    text.iter().all(|byte| matches!(byte, b' '..=b'~'))
 }
 
-impl Alphabet {
-    fn allows(self, byte: u8) -> bool
-        ensures { result ≡ allows self byte }
-    {
-        match self {
-            Alphabet::Printable => 32 <= byte && byte <= 126,
-            Alphabet::LocalIdentifier => 33 <= byte && byte <= 126 && byte != b':',
-            Alphabet::Agency => byte.is_ascii_alphanumeric() || byte == b'-' || byte == b'.',
-        }
-    }
+// Whether each is one that a local identifier may have.
+pub(crate) fn is_local(text: &[u8]) -> bool
+    ensures { result ≡ list_all is_local_byte text.now }
+{
+    text.iter()
+        .all(|byte| byte.is_ascii_graphic() && *byte != b':')
+}
 
-    pub(crate) fn spells(self, text: &[u8]) -> bool
-        ensures { result ≡ every_byte self text.now }
-    {
-        for byte in text {
-            if !self.allows(*byte) {
-                return false;
-            }
-        }
-        true
-    }
+// Whether each is one that an agency may have.
+pub(crate) fn is_agency(text: &[u8]) -> bool
+    ensures { result ≡ list_all is_agency_byte text.now }
+{
+    text.iter().all(|byte| byte.is_ascii_alphanumeric() || matches!(byte, b'-' | b'.'))
 }

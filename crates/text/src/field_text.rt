@@ -1,10 +1,21 @@
 // The texts of plain fields: printable, within a width, and for the directionals one of eight words.
 ghost use Rattle.std.specs.Prelude.{◌≡◌, Decides};
-ghost use Rattle.text.specs.FieldText.{FieldText, directions, is_directional, is_field_text, is_plain_text, one_of};
+ghost use Rattle.text.specs.FieldText.{FieldText, is_directional, is_field_text, is_plain_text};
 ghost use Rattle.text.specs.Widths.{width_of};
 
-use crate::bytes::{Alphabet, same_bytes};
+use crate::bytes::is_printable;
 use crate::full_name::FULL_NAME_WIDTH;
+
+const DIRECTIONS: [&[u8]; 8] = [
+    b"North",
+    b"South",
+    b"East",
+    b"West",
+    b"Northeast",
+    b"Northwest",
+    b"Southeast",
+    b"Southwest",
+];
 
 /// A field that holds plain text.
 #[derive(Clone, Copy, Debug, PartialEq, Eq)]
@@ -49,53 +60,24 @@ impl TextField {
     }
 
     /// Whether the text has the field's form. An empty text has it: whether the field may be missing is decided elsewhere.
+    #[tactic(auto, using(crate::proofs::FieldLaws::field_decides), unfolding(crate::specs::FieldText::is_field_text, crate::specs::FieldText::directions, crate::specs::Bytes::same_bytes))]
     pub fn accepts(self, text: &[u8]) -> bool
         ensures accepts { result ≡ is_field_text self text.now }
         ensures decides { Decides result (FieldText self text.now) }
     {
-        self.is_field_text(text)
-    }
-
-    fn is_field_text(self, text: &[u8]) -> bool
-        ensures { result ≡ is_field_text self text.now }
-    {
-        if self.is_directional() && !text.is_empty() && !is_direction(text) {
-            return false;
-        }
-        is_plain_text(self.width(), text)
+        (!self.is_directional() || text.is_empty() || DIRECTIONS.contains(&text))
+            && is_plain_text(self.width(), text)
     }
 
     fn is_directional(self) -> bool
         ensures { result ≡ is_directional self }
     {
-        match self {
-            TextField::PreDirectional | TextField::PostDirectional => true,
-            _ => false,
-        }
+        matches!(self, TextField::PreDirectional | TextField::PostDirectional)
     }
 }
 
 fn is_plain_text(width: usize, text: &[u8]) -> bool
     ensures { result ≡ is_plain_text width text.now }
 {
-    if text.is_empty() {
-        return true;
-    }
-    if text[0] == b' ' || text[text.len() - 1] == b' ' {
-        return false;
-    }
-    text.len() <= width && Alphabet::Printable.spells(text)
-}
-
-fn is_direction(text: &[u8]) -> bool
-    ensures { result ≡ one_of directions text.now }
-{
-    same_bytes(text, b"North")
-        || same_bytes(text, b"South")
-        || same_bytes(text, b"East")
-        || same_bytes(text, b"West")
-        || same_bytes(text, b"Northeast")
-        || same_bytes(text, b"Northwest")
-        || same_bytes(text, b"Southeast")
-        || same_bytes(text, b"Southwest")
+    !text.starts_with(b" ") && !text.ends_with(b" ") && text.len() <= width && is_printable(text)
 }

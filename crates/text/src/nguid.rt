@@ -1,10 +1,10 @@
 // NGUIDs: identifiers of roads, address points and aliases, made unique by a layer, a local identifier and an agency.
 ghost use Rattle.promise.specs.Exactly.{Exactly};
 ghost use Rattle.std.specs.Option.{option_map};
-ghost use Rattle.text.specs.Nguids.{NguidText, after, colon_split, has_form, layer_text, nguid_start, parts_of, read_nguid};
-ghost use Rattle.std.specs.Prelude.{◌≡◌};
+ghost use Rattle.text.specs.Nguids.{NguidText, colon_split, has_form, layer_text, parts_of, read_nguid};
+ghost use Rattle.std.specs.Prelude.{◌≡◌, ◌==◌, position};
 
-use crate::bytes::Alphabet;
+use crate::bytes::{is_agency, is_local};
 
 const NGUID_WIDTH: usize = 254;
 
@@ -40,11 +40,29 @@ pub struct Nguid<'a> {
 
 impl<'a> Nguid<'a> {
     /// Reads an NGUID of the layer: the fixed front, the layer, a colon, a local identifier, a colon and an agency.
+    #[tactic(auto, using(crate::proofs::NguidLaws::read_exactly), unfolding(crate::specs::Nguids::read_nguid, crate::specs::Nguids::nguid_front, crate::specs::Nguids::after))]
     pub fn read(layer: Layer, text: &'a [u8]) -> Option<Nguid<'a>>
         ensures reads { option_map parts_of result ≡ read_nguid layer text.now }
         ensures exactly { Exactly (NguidText layer text.now) (option_map parts_of result) }
     {
-        read_nguid(layer, text)
+        if text.len() > NGUID_WIDTH {
+            return None;
+        }
+        let rest = text.strip_prefix(FRONT)?;
+        let rest = rest.strip_prefix(layer.text())?;
+        let rest = rest.strip_prefix(b":")?;
+        Nguid::split_at_colon(rest).filter(|nguid| nguid.has_form())
+    }
+
+    #[tactic(auto, unfolding(crate::specs::Nguids::colon_split))]
+    fn split_at_colon(text: &'a [u8]) -> Option<Nguid<'a>>
+        ensures { option_map parts_of result ≡ colon_split text.now }
+    {
+        let colon = first_colon(text)?;
+        Some(Nguid {
+            local: &text[..colon],
+            agency: &text[colon + 1..],
+        })
     }
 
     fn has_form(self) -> bool
@@ -52,46 +70,13 @@ impl<'a> Nguid<'a> {
     {
         !self.local.is_empty()
             && !self.agency.is_empty()
-            && Alphabet::LocalIdentifier.spells(self.local)
-            && Alphabet::Agency.spells(self.agency)
+            && is_local(self.local)
+            && is_agency(self.agency)
     }
 }
 
-fn read_nguid<'a>(layer: Layer, text: &'a [u8]) -> Option<Nguid<'a>>
-    ensures { option_map parts_of result ≡ read_nguid layer text.now }
+fn first_colon(text: &[u8]) -> Option<usize>
+    ensures { result ≡ position (λ byte. byte == 58) text.now }
 {
-    if text.len() > NGUID_WIDTH {
-        return None;
-    }
-    let rest = after_layer(layer, text)?;
-    let nguid = split_at_colon(rest)?;
-    if nguid.has_form() { Some(nguid) } else { None }
-}
-
-fn after_layer<'a>(layer: Layer, text: &'a [u8]) -> Option<&'a [u8]>
-    ensures { option_map (λ x. x.now) result ≡ after (nguid_start layer) text.now }
-{
-    let rest = after(FRONT, text)?;
-    let rest = after(layer.text(), rest)?;
-    after(b":", rest)
-}
-
-fn after<'a>(front: &[u8], text: &'a [u8]) -> Option<&'a [u8]>
-    ensures { option_map (λ x. x.now) result ≡ after front.now text.now }
-{
-    text.strip_prefix(front)
-}
-
-fn split_at_colon<'a>(text: &'a [u8]) -> Option<Nguid<'a>>
-    ensures { option_map parts_of result ≡ colon_split text.now }
-{
-    for (place, byte) in text.iter().enumerate() {
-        if *byte == b':' {
-            return Some(Nguid {
-                local: &text[0..place],
-                agency: &text[place + 1..text.len()],
-            });
-        }
-    }
-    None
+    text.iter().position(|byte| *byte == b':')
 }

@@ -1,13 +1,13 @@
-use Rattle.text.proofs.NumberLaws.{not_past, number_exactly, reads_back}
+use Rattle.std.proofs.Common.{arith}
+use Rattle.std.proofs.lemmas.Bool.Decides.{nat_tests}
+use Rattle.text.specs.AddressNumber.{read_number}
+use Rattle.text.proofs.NumberLaws.{not_past, read_exactly}
 use Rattle.text.proofs.address_number.AddressNumber.read.Goals as goal
 
-pub returns : goal.returns
-returns c =
-    let told = c.read_number.ensures in
-    let text = c.args.text.now in
-    record {
-      reads = told;
-      exactly = rw told (number_exactly text);
-      not_past = not_past text _ told;
-      reads_back = reads_back;
-    }
+pub returns-clause-exactly : goal.returns-clause-exactly
+unfolding read_number
+returns-clause-exactly c = read_exactly _ _ (grind (arith, nat_tests))
+
+pub returns-clause-not_past : goal.returns-clause-not_past
+unfolding read_number
+returns-clause-not_past c = not_past c.args.text.now _ (grind (arith, nat_tests))
