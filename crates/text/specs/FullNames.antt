@@ -1,5 +1,5 @@
 -- Full names: the elements of a street's name that are present, joined by one space. Assumes nothing.
-use Rattle.std.specs.Prelude.{◌≡◌, ℕ, ◌≤◌, Bool, true, false, cond, ◌&&◌, List, [], ◌∷◌, ◌++◌, map, length, take, drop, Some, None, filter, Option, nat_le}
+use Rattle.std.specs.Prelude.{◌≡◌, ℕ, ◌≤◌, Bool, true, false, cond, ◌&&◌, List, [], ◌∷◌, ◌++◌, map, length, Some, None, filter, Option, nat_le}
 use Rattle.std.specs.Borrow.{Bor}
 use Rattle.text.specs.Widths.{full_name_width, width_of}
 use Rattle.text.specs.declared.field_text.TextField.{TextField}
@@ -8,7 +8,7 @@ use Rattle.text.specs.declared.full_name.FullName.{FullName}
 
 -- the name that a full name holds
 abbrev pub name_of : FullName → List ℕ
-name_of full = take full.length full.bytes
+name_of full = full.bytes.items
 
 abbrev pub present : List ℕ → Bool
 present [] = false
@@ -42,10 +42,6 @@ fits name element = nat_le (length (name_with name element)) full_name_width
 
 abbrev pub pushed : List ℕ → List ℕ → List ℕ
 pushed name element = cond (fits name element) (name_with name element) name
-
--- the bytes with the name at their front
-abbrev pub over : List ℕ → List ℕ → List ℕ
-over bytes name = name ++ drop (length name) bytes
 
 -- the name after one element after another was pushed, and whether each of them fitted
 unfoldable pub pushed_all : List ℕ → List (List ℕ) → List ℕ

@@ -12,5 +12,5 @@ mod nguid;
 pub use address_number::AddressNumber;
 pub use bytes::same_bytes;
 pub use field_text::TextField;
-pub use full_name::FullName;
+pub use full_name::{DoesNotFit, FullName};
 pub use nguid::{Layer, Nguid};

@@ -1,7 +1,7 @@
 use Rattle.std.proofs.Common.{◌≡◌, [], drop}
 use Rattle.text.specs.FullNames.{texts_of}
 use Rattle.text.proofs.JoinLaws.{completed, grown}
-use Rattle.text.proofs.full_name.joining.join.Given as goal
+use Rattle.text.proofs.full_name.FullName.of.Given as goal
 
 -- the elements left complete the name
 abbrev pub invariant-loop-element : goal.invariant-loop-element
