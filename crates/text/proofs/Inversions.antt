@@ -1,5 +1,5 @@
 -- What an answer says of the steps that led to it, and the steps of `?`.
-use Rattle.std.proofs.Common.{◌≡◌, ℕ, Bool, true, false, cond, ◌⊎◌, Some, None, Option, refl, ap, inl, inr, arith}
+use Rattle.std.proofs.Common.{◌≡◌, Bool, true, false, cond, Some, None, Option, refl, ap}
 use Rattle.std.specs.Option.{option_map}
 use Rattle.text.specs.Nguids.{next}
 
@@ -7,11 +7,7 @@ pub same_some : {A : Type 0} (v w : A) → Some v ≡ Some w → v ≡ w
 same_some v w e = cc
 
 pub none_some : {A C : Type 0} (v : A) → None ≡ Some v → C
-none_some v e = let z : ◌≡◌ {A = ℕ} 0 1 = cc in let no : ⊥ = omega arith in absurd no
-
-pub either_way : {A : Type 0} (b : Bool) (x y v : A) → cond b x y ≡ v → ((b ≡ true) × (x ≡ v)) ⊎ ((b ≡ false) × (y ≡ v))
-either_way true x y v e = inl (refl, e)
-either_way false x y v e = inr (refl, e)
+none_some v e = cc
 
 pub cond_apart : {A : Type 0} (b : Bool) (o : Option A) (v : A) → cond b o None ≡ Some v → (b ≡ true) × (o ≡ Some v)
 cond_apart true o v e = (refl, e)
@@ -31,7 +27,3 @@ goes f e = ap (λ o. next o f) e
 
 pub stops : {A B : Type 0} {o : Option A} (f : A → Option B) → None ≡ o → None ≡ next o f
 stops f e = ap (λ o. next o f) e
-
-pub none_left : {A : Type 0} (o : Option A) → ((v : A) → o ≡ Some v → ⊥) → None ≡ o
-none_left None never = refl
-none_left (Some v) never = absurd (never v refl)

@@ -93,7 +93,7 @@ complete layer text parts form =
     rw (whole, after_complete, after_complete, after_complete) (split_complete parts.local parts.agency form.local_bytes) in
     rw (le-leb (length text) nguid_width form.within, steps, tests) refl
 
-nguid_exactly : (layer : Layer) (text : List ℕ) → Exactly (NguidText layer text) (read_nguid layer text)
+pub nguid_exactly : (layer : Layer) (text : List ℕ) → Exactly (NguidText layer text) (read_nguid layer text)
 nguid_exactly layer text = record { sound = sound layer text; complete = complete layer text }
 
 pub read_exactly : (layer : Layer) (text : List ℕ) (answer : Option NguidParts) → answer ≡ read_nguid layer text

@@ -58,7 +58,7 @@ sound (b ∷ bs) place e =
 well_spelled : (d : ℕ) (ds : List ℕ) → length (d ∷ ds) ≤ most_digits → (d ≢ 0) ⊎ (ds ≡ []) → well_begun (spelled (d ∷ ds)) ≡ true
 well_spelled d [] few led = refl
 well_spelled d (x ∷ ds) few (inl h) = simp length-map (grind (arith, nat_tests))
-well_spelled d (x ∷ ds) few (inr e) = let z : ◌≡◌ {A = ℕ} 0 1 = cc in let no : ⊥ = omega arith in absurd no
+well_spelled d (x ∷ ds) few (inr e) = cc
 
 complete : (text : List ℕ) (place : AddressNumber) → NumberText text place → read_number text ≡ Some place
 unfolding read_number digits_value

@@ -5,7 +5,7 @@ use Rattle.std.specs.List.{All, Contains, ends_with, list_all, list_any, starts_
 use Rattle.text.specs.Bytes.{IsPrintable, is_printable, same_bytes}
 use Rattle.text.specs.Widths.{width_of}
 use Rattle.text.specs.declared.field_text.TextField.{TextField}
-use Rattle.text.specs.declared.field_text.TextField.TheVariants.{PreModifier, PreDirectional, PreType, PreSeparator, StreetName, PostType, PostDirectional, PostModifier, FullName, County, Municipality, NumberPrefix, NumberSuffix, Unit}
+use Rattle.text.specs.declared.field_text.TextField.TheVariants.{PreDirectional, PostDirectional}
 
 unfoldable pub directions : List (List ℕ)
 directions =
@@ -13,20 +13,9 @@ directions =
     ∷ codes "Northeast" ∷ codes "Northwest" ∷ codes "Southeast" ∷ codes "Southwest" ∷ []
 
 abbrev pub is_directional : TextField → Bool
-is_directional PreModifier = false
 is_directional PreDirectional = true
-is_directional PreType = false
-is_directional PreSeparator = false
-is_directional StreetName = false
-is_directional PostType = false
 is_directional PostDirectional = true
-is_directional PostModifier = false
-is_directional FullName = false
-is_directional County = false
-is_directional Municipality = false
-is_directional NumberPrefix = false
-is_directional NumberSuffix = false
-is_directional Unit = false
+is_directional _ = false
 
 -- the text is one of the words
 abbrev pub one_of : List (List ℕ) → List ℕ → Bool

@@ -1,6 +1,7 @@
 -- Full names: the elements of a street's name that are present, joined by one space. Assumes nothing.
 use Rattle.std.specs.Prelude.{◌≡◌, ℕ, ◌≤◌, Bool, true, false, cond, ◌&&◌, List, [], ◌∷◌, ◌++◌, map, length, Some, None, filter, Option, nat_le}
 use Rattle.std.specs.Borrow.{Bor}
+use Rattle.std.specs.List.{fold, join_with_byte}
 use Rattle.text.specs.Widths.{full_name_width, width_of}
 use Rattle.text.specs.declared.field_text.TextField.{TextField}
 use Rattle.text.specs.declared.field_text.TextField.TheVariants.{PreModifier, PreDirectional, PreType, PreSeparator, StreetName, PostType, PostDirectional, PostModifier}
@@ -14,15 +15,9 @@ abbrev pub present : List ℕ → Bool
 present [] = false
 present (byte ∷ bytes) = true
 
--- texts with one space between neighbours
-unfoldable pub spaced : List (List ℕ) → List ℕ
-spaced [] = []
-spaced (element ∷ []) = element
-spaced (element ∷ (other ∷ others)) = element ++ (32 ∷ spaced (other ∷ others))
-
 -- the elements that are present, joined by one space
 unfoldable pub joined : List (List ℕ) → List ℕ
-joined elements = spaced (filter present elements)
+joined elements = join_with_byte 32 (filter present elements)
 
 -- the texts that are lent
 abbrev pub texts_of : List (Bor (List ℕ)) → List (List ℕ)
@@ -43,11 +38,7 @@ fits name element = nat_le (length (name_with name element)) full_name_width
 abbrev pub pushed : List ℕ → List ℕ → List ℕ
 pushed name element = cond (fits name element) (name_with name element) name
 
--- the name after one element after another was pushed, and whether each of them fitted
-unfoldable pub pushed_all : List ℕ → List (List ℕ) → List ℕ
-pushed_all name [] = name
-pushed_all name (element ∷ elements) = pushed_all (pushed name element) elements
-
+-- whether each of the elements fits, where those before it were pushed
 unfoldable pub all_fit : List ℕ → List (List ℕ) → Bool
 all_fit name [] = true
 all_fit name (element ∷ elements) = fits name element && all_fit (pushed name element) elements
@@ -56,7 +47,7 @@ all_fit name (element ∷ elements) = fits name element && all_fit (pushed name 
 abbrev pub Joins : Type 0
 Joins =
     (elements : List (List ℕ)) → length (joined elements) ≤ full_name_width
-    → (all_fit [] elements ≡ true) × (pushed_all [] elements ≡ joined elements)
+    → (all_fit [] elements ≡ true) × (fold pushed [] elements ≡ joined elements)
 
 -- the full name of the elements, if it fits
 unfoldable pub full_name : List (List ℕ) → Option (List ℕ)

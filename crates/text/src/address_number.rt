@@ -1,10 +1,11 @@
 // Address numbers, and the decimal texts that they are read from and written as.
-ghost use Rattle.std.specs.Prelude.{◌≡◌, ◌≤◌, length};
+ghost use Rattle.std.specs.Prelude.{◌≡◌, ◌≤◌, length, Some};
 ghost use Rattle.promise.specs.Exactly.{Exactly};
-ghost use Rattle.text.specs.AddressNumber.{NotPast, NumberText, ReadsBack, digits_value, most_digits, read_number, written_number, written_width};
+ghost use Rattle.text.specs.AddressNumber.{NotPast, NumberText, ReadsBack, digits_value, most_digits, read_number, written_number};
 
 use arrayvec::ArrayVec;
 use itoa::Buffer;
+use std::fmt;
 
 const MOST_DIGITS: usize = 6;
 
@@ -39,12 +40,20 @@ impl AddressNumber {
     #[tactic(auto, using(std::proofs::lemmas::Fmt::decimal_nonempty))]
     pub fn write(self) -> ArrayVec<u8, WRITTEN_WIDTH>
         ensures writes { result.items ≡ written_number self }
-        ensures width { (1 ≤ length result.items) × (length result.items ≤ written_width) }
+        ensures width { (1 ≤ length result.items) × (length result.items ≤ WRITTEN_WIDTH) }
     {
         let mut out = ArrayVec::new();
         out.try_extend_from_slice(Buffer::new().format(self.value).as_bytes())
             .unwrap();
         out
+    }
+}
+
+impl fmt::Display for AddressNumber {
+    ghost output = { λ number. Some (written_number number) };
+
+    fn fmt<W: fmt::Write>(&self, f: &mut fmt::Formatter<W>) -> fmt::Result {
+        write!(f, "{}", self.value)
     }
 }
 

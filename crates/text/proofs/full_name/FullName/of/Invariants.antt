@@ -1,8 +1,8 @@
-use Rattle.std.proofs.Common.{◌≡◌, [], drop}
-use Rattle.text.specs.FullNames.{texts_of}
-use Rattle.text.proofs.JoinLaws.{completed, grown}
+use Rattle.std.proofs.Common.{◌≡◌, [], take}
+use Rattle.std.specs.List.{fold}
+use Rattle.text.specs.FullNames.{name_of, name_with, texts_of}
 use Rattle.text.proofs.full_name.FullName.of.Given as goal
 
--- the elements left complete the name
+-- the name is what the elements so far join to
 abbrev pub invariant-loop-element : goal.invariant-loop-element
-invariant-loop-element l = grown [] (texts_of l.elements) ≡ completed l.name (drop l.element-index l.elements)
+invariant-loop-element l = name_of l.name ≡ fold name_with [] (texts_of (take l.element-index l.elements))
