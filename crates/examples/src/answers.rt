@@ -1,120 +1,78 @@
-// What the readers make of the texts of an example, in words.
+// What the readers make of the texts of an example.
 use crate::numberings;
+use crate::readings::Reading;
+use crate::tables::Texts;
 use instant::{Instant, Lifetime};
 use numbering::{Marks, Range};
-use std::alloc::{AllocError, Global};
-use territory::{Numbering, Territory};
+use territory::Territory;
 use text::{AddressNumber, FullName, Layer, Nguid, TextField};
 
-pub(crate) type Answer = Result<String, AllocError>;
-
-pub(crate) fn text_at<'a>(texts: &[&'a str], place: usize) -> &'a [u8] {
-    match texts.get(place) {
-        Some(text) => text.as_bytes(),
-        None => b"",
+pub(crate) fn answer(kind: &str, texts: Texts) -> Reading {
+    match kind {
+        "range" => numberings::read(texts).map_or_else(Reading::RefusedAt, Reading::Range),
+        "marks" => numberings::read(texts).map_or_else(Reading::RefusedAt, Reading::Marks),
+        _ => read(kind, texts).unwrap_or(Reading::Refused),
     }
 }
 
-pub(crate) fn refused(heap: Global) -> Answer {
-    String::from_str(heap, "refused")
-}
-
-fn date(heap: Global, text: &[u8]) -> Answer {
-    match Instant::read(text) {
-        Some(instant) => format!(in heap; "{}", instant.tenths),
-        None => refused(heap),
+fn read(kind: &str, texts: Texts) -> Option<Reading> {
+    let text = texts.at(0);
+    match kind {
+        "date" => Instant::read(text).map(|instant| Reading::Tenths(instant.tenths)),
+        "road" => identifier(Layer::Road, text),
+        "point" => identifier(Layer::AddressPoint, text),
+        "alias" => identifier(Layer::Alias, text),
+        "number" => AddressNumber::read(text).map(Reading::Number),
+        "name" => FullName::of(texts.all()).map(Reading::Name),
+        "lifetimes" => meeting(texts),
+        "range holds" => numberings::holds::<Range>(texts),
+        "range meets" => numberings::meets::<Range>(texts),
+        "marks hold" => numberings::holds::<Marks>(texts),
+        "marks meet" => numberings::meets::<Marks>(texts),
+        _ => plain(kind, text),
     }
 }
 
-fn identifier(heap: Global, layer: Layer, text: &[u8]) -> Answer {
-    match Nguid::read(layer, text) {
-        Some(nguid) => {
-            let local = nguid.local.len();
-            let agency = nguid.agency.len();
-            format!(in heap; "local of {local} bytes, agency of {agency}")
-        }
-        None => refused(heap),
+fn identifier(layer: Layer, text: &[u8]) -> Option<Reading> {
+    let nguid = Nguid::read(layer, text)?;
+    Some(Reading::Identifier {
+        local: nguid.local.len(),
+        agency: nguid.agency.len(),
+    })
+}
+
+fn meeting(texts: Texts) -> Option<Reading> {
+    let one = lifetime(texts)?;
+    let other = lifetime(texts.after(2))?;
+    match one.common(&other) {
+        Some(instant) => Some(Reading::Tenths(instant.tenths)),
+        None => Some(Reading::NothingShared),
     }
 }
 
-fn number(heap: Global, text: &[u8]) -> Answer {
-    match AddressNumber::read(text) {
-        Some(number) => format!(in heap; "{}", number.value),
-        None => refused(heap),
-    }
-}
-
-fn accepted(heap: Global, field: TextField, text: &[u8]) -> Answer {
-    if field.accepts(text) {
-        String::from_str(heap, "accepted")
-    } else {
-        refused(heap)
-    }
-}
-
-fn full_name(heap: Global, elements: &[&str]) -> Answer {
-    let mut name = FullName::new();
-    for element in elements {
-        if !name.push(element.as_bytes()) {
-            return refused(heap);
-        }
-    }
-    let mut text = String::new(heap);
-    for byte in name.as_bytes() {
-        text.push(*byte as char)?;
-    }
-    Ok(text)
-}
-
-fn lifetime(effective: &[u8], expire: &[u8]) -> Option<Lifetime> {
+fn lifetime(texts: Texts) -> Option<Lifetime> {
     Lifetime::new(
-        Instant::read_effective(effective)?,
-        Instant::read_expire(expire)?,
+        Instant::read_effective(texts.at(0))?,
+        Instant::read_expire(texts.at(1))?,
     )
 }
 
-fn meeting(heap: Global, texts: &[&str]) -> Answer {
-    let Some(one) = lifetime(text_at(texts, 0), text_at(texts, 1)) else {
-        return refused(heap);
-    };
-    let Some(other) = lifetime(text_at(texts, 2), text_at(texts, 3)) else {
-        return refused(heap);
-    };
-    match one.common(&other) {
-        Some(instant) => format!(in heap; "{}", instant.tenths),
-        None => String::from_str(heap, "none"),
+fn plain(kind: &str, text: &[u8]) -> Option<Reading> {
+    match field(kind) {
+        Some(field) => field.accepts(text).then_some(Reading::Accepted),
+        None => Some(Reading::OfNoKind),
     }
 }
 
-fn plain(heap: Global, kind: &str, text: &[u8]) -> Answer {
+fn field(kind: &str) -> Option<TextField> {
     match kind {
-        "directional" => accepted(heap, TextField::PreDirectional, text),
-        "street name" => accepted(heap, TextField::StreetName, text),
-        "county" => accepted(heap, TextField::County, text),
-        "municipality" => accepted(heap, TextField::Municipality, text),
-        "prefix" => accepted(heap, TextField::NumberPrefix, text),
-        "suffix" => accepted(heap, TextField::NumberSuffix, text),
-        "unit" => accepted(heap, TextField::Unit, text),
-        _ => String::from_str(heap, "of no kind that is known"),
-    }
-}
-
-pub(crate) fn answer(heap: Global, kind: &str, texts: &[&str]) -> Answer {
-    let text = text_at(texts, 0);
-    match kind {
-        "date" => date(heap, text),
-        "road" => identifier(heap, Layer::Road, text),
-        "point" => identifier(heap, Layer::AddressPoint, text),
-        "alias" => identifier(heap, Layer::Alias, text),
-        "number" => number(heap, text),
-        "name" => full_name(heap, texts),
-        "lifetimes" => meeting(heap, texts),
-        "range" => numberings::range(heap, texts),
-        "range holds" => numberings::holds::<Range>(heap, texts),
-        "range meets" => numberings::meets::<Range>(heap, texts),
-        "marks" => numberings::marks(heap, texts),
-        "marks hold" => numberings::holds::<Marks>(heap, texts),
-        "marks meet" => numberings::meets::<Marks>(heap, texts),
-        _ => plain(heap, kind, text),
+        "directional" => Some(TextField::PreDirectional),
+        "street name" => Some(TextField::StreetName),
+        "county" => Some(TextField::County),
+        "municipality" => Some(TextField::Municipality),
+        "prefix" => Some(TextField::NumberPrefix),
+        "suffix" => Some(TextField::NumberSuffix),
+        "unit" => Some(TextField::Unit),
+        _ => None,
     }
 }

@@ -3,51 +3,62 @@
 
 mod answers;
 mod numberings;
+mod readings;
 mod tables;
 
 use answers::answer;
-use std::{env, fs};
+use std::{env, fmt, fs};
 use tables::Example;
 
-// Prints what was read of one example, and whether that was expected.
+// How many examples there are, and how many of them agree.
+#[derive(Clone, Copy, Default)]
+struct Tally {
+    examples: u64,
+    agreeing: u64,
+}
+
+impl Tally {
+    fn count(&mut self, agrees: bool) {
+        self.examples = self.examples.saturating_add(1);
+        self.agreeing = self.agreeing.saturating_add(u64::from(agrees));
+    }
+}
+
+impl fmt::Display for Tally {
+    fn fmt<W: fmt::Write>(&self, f: &mut fmt::Formatter<W>) -> fmt::Result {
+        write!(f, "{} examples, {} agree", self.examples, self.agreeing)
+    }
+}
+
+// Prints what was read of one example, and tells whether that was expected.
 fn run_example(rt: &HostRuntime, example: &Example) -> anyhow::Result<bool> {
-    let read = answer(rt.alloc(), example.kind, example.texts.as_slice())?;
-    let agrees = read.as_str() == example.expected;
-    let verdict = if agrees { "agrees" } else { "DIFFERS" };
     let kind = example.kind;
     let shown = example.shown;
     let expected = example.expected;
+    let read = format!(in rt.alloc(); "{}", answer(kind, example.texts()))?;
+    let agrees = read.as_str() == expected;
+    let verdict = if agrees { "agrees" } else { "DIFFERS" };
     println!(rt; "{verdict}: {kind} \"{shown}\" is {read}, expected {expected}")?;
     Ok(agrees)
 }
 
-// Prints the examples of a table, and tells how many there are and how many agree.
-fn run_table(rt: &HostRuntime, text: &str) -> anyhow::Result<(u64, u64)> {
-    let mut count = 0u64;
-    let mut agree = 0u64;
+// Prints the examples of a table, and counts them.
+fn run_table(rt: &HostRuntime, text: &str, tally: &mut Tally) -> anyhow::Result<()> {
     for line in text.lines() {
         match Example::read(rt.alloc(), line)? {
-            Some(example) => {
-                count = count.saturating_add(1);
-                if run_example(rt, &example)? {
-                    agree = agree.saturating_add(1);
-                }
-            }
+            Some(example) => tally.count(run_example(rt, &example)?),
             None => println!(rt; "{line}")?,
         }
     }
-    Ok((count, agree))
+    Ok(())
 }
 
 fn main(rt: HostRuntime) -> anyhow::Result<()> {
-    let mut count = 0u64;
-    let mut agree = 0u64;
+    let mut tally = Tally::default();
     for path in env::args(&rt)?.skip(1) {
         let text = fs::read_to_string(&rt, path.as_str())?;
-        let (more, agreeing) = run_table(&rt, text.as_str())?;
-        count = count.saturating_add(more);
-        agree = agree.saturating_add(agreeing);
+        run_table(&rt, text.as_str(), &mut tally)?;
     }
-    println!(rt; "{count} examples, {agree} agree")?;
+    println!(rt; "{tally}")?;
     Ok(())
 }
