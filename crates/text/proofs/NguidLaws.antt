@@ -1,5 +1,5 @@
 -- Reading NGUIDs answers exactly their form.
-use Rattle.std.proofs.Common.{◌≡◌, ℕ, ◌+◌, ◌<◌, Bool, true, eqb, leb, List, ◌++◌, length, get_or, take, drop, Some, Option, sym, refl, ap, take-append-drop, ◌∙◌, subst, append_assoc, arith}
+use Rattle.std.proofs.Common.{◌≡◌, ℕ, ◌+◌, ◌<◌, Bool, true, eqb, leb, List, ◌++◌, length, get_or, take, drop, Some, sym, refl, ap, take-append-drop, ◌∙◌, subst, append_assoc, arith}
 use Rattle.std.specs.List.{All, position, position_or_len}
 use Rattle.std.specs.Str.{bytes_eq}
 use Rattle.std.proofs.Math.Seq.{drop-append-add, drop-append_seam, get_or-append_seam, take-append_seam}
@@ -95,7 +95,3 @@ complete layer text parts form =
 
 pub nguid_exactly : (layer : Layer) (text : List ℕ) → Exactly (NguidText layer text) (read_nguid layer text)
 nguid_exactly layer text = record { sound = sound layer text; complete = complete layer text }
-
-pub read_exactly : (layer : Layer) (text : List ℕ) (answer : Option NguidParts) → answer ≡ read_nguid layer text
-    → Exactly (NguidText layer text) answer
-read_exactly layer text answer is = rw is (nguid_exactly layer text)

@@ -69,9 +69,6 @@ complete text place form =
 pub number_exactly : (text : List ℕ) → Exactly (NumberText text) (read_number text)
 number_exactly text = record { sound = sound text; complete = complete text }
 
-pub read_exactly : (text : List ℕ) (answer : Option AddressNumber) → answer ≡ read_number text → Exactly (NumberText text) answer
-read_exactly text answer is = rw is (number_exactly text)
-
 pub not_past : (text : List ℕ) (answer : Option AddressNumber) → answer ≡ read_number text → NotPast answer
 not_past text None is = tt
 not_past text (Some place) is =

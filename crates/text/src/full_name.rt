@@ -3,7 +3,7 @@ ghost use Rattle.std.specs.Prelude.{◌≡◌, ◌≤◌, true, [], codes, lengt
 ghost use Rattle.std.specs.Option.{option_map};
 ghost use Rattle.text.specs.Widths.{full_name_width};
 
-use arrayvec::{ArrayVec, CapacityError};
+use arrayvec::ArrayVec;
 use std::error::Error;
 use std::fmt;
 
@@ -61,8 +61,8 @@ impl FullName {
         if self.bytes.remaining_capacity() < separator.len() + element.len() {
             return Err(DoesNotFit);
         }
-        self.bytes.try_extend_from_slice(separator)?;
-        self.bytes.try_extend_from_slice(element)?;
+        self.bytes.try_extend_from_slice(separator).unwrap();
+        self.bytes.try_extend_from_slice(element).unwrap();
         Ok(())
     }
 
@@ -74,12 +74,6 @@ impl FullName {
         } else {
             b" "
         }
-    }
-}
-
-impl From<CapacityError> for DoesNotFit {
-    fn from(_error: CapacityError) -> DoesNotFit {
-        DoesNotFit
     }
 }
 

@@ -40,7 +40,7 @@ pub struct Nguid<'a> {
 
 impl<'a> Nguid<'a> {
     /// Reads an NGUID of the layer: the fixed front, the layer, a colon, a local identifier, a colon and an agency.
-    #[tactic(auto, using(crate::proofs::NguidLaws::read_exactly), unfolding(crate::specs::Nguids::read_nguid, crate::specs::Nguids::nguid_front, crate::specs::Nguids::after))]
+    #[tactic(auto, using(crate::proofs::NguidLaws::nguid_exactly), unfolding(crate::specs::Nguids::read_nguid, crate::specs::Nguids::nguid_front, crate::specs::Nguids::after))]
     pub fn read(layer: Layer, text: &'a [u8]) -> Option<Nguid<'a>>
         ensures reads { option_map parts_of result ≡ read_nguid layer text.now }
         ensures exactly { Exactly (NguidText layer text.now) (option_map parts_of result) }
