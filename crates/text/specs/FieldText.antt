@@ -27,10 +27,12 @@ is_plain_text width text =
     (not (starts_with nat_eq text (codes " ")) && not (ends_with nat_eq text (codes " ")))
     && (nat_le (length text) width && list_all is_printable text)
 
+-- a directional is missing, or one of the eight words
+abbrev pub is_directed : TextField → List ℕ → Bool
+is_directed field text = not (is_directional field) || (length text == 0 || one_of directions text)
+
 unfoldable pub is_field_text : TextField → List ℕ → Bool
-is_field_text field text =
-    (not (is_directional field) || (length text == 0 || one_of directions text))
-    && is_plain_text (width_of field) text
+is_field_text field text = is_directed field text && is_plain_text (width_of field) text
 
 -- the text has the field's form
 pub record FieldText (field : TextField) (text : List ℕ) : Type 0 where

@@ -31,5 +31,5 @@ pub(crate) fn is_local(text: &[u8]) -> bool
 pub(crate) fn is_agency(text: &[u8]) -> bool
     ensures { result ≡ list_all is_agency_byte text.now }
 {
-    text.iter().all(|byte| byte.is_ascii_alphanumeric() || matches!(byte, b'-' | b'.'))
+    text.iter().all(|byte| byte.is_ascii_alphanumeric() || *byte == b'-' || *byte == b'.')
 }

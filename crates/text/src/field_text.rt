@@ -1,6 +1,6 @@
 // The texts of plain fields: printable, within a width, and for the directionals one of eight words.
 ghost use Rattle.std.specs.Prelude.{◌≡◌, Decides};
-ghost use Rattle.text.specs.FieldText.{FieldText, is_directional, is_field_text, is_plain_text};
+ghost use Rattle.text.specs.FieldText.{FieldText, is_directed, is_directional, is_field_text, is_plain_text};
 ghost use Rattle.text.specs.Widths.{width_of};
 
 use crate::bytes::is_printable;
@@ -60,13 +60,20 @@ impl TextField {
     }
 
     /// Whether the text has the field's form. An empty text has it: whether the field may be missing is decided elsewhere.
-    #[tactic(auto, using(crate::proofs::FieldLaws::field_decides), unfolding(crate::specs::FieldText::is_field_text, crate::specs::FieldText::directions, crate::specs::Bytes::same_bytes))]
+    #[tactic(auto, unfolding(crate::specs::FieldText::is_field_text))]
     pub fn accepts(self, text: &[u8]) -> bool
         ensures accepts { result ≡ is_field_text self text.now }
         ensures decides { Decides result (FieldText self text.now) }
     {
-        (!self.is_directional() || text.is_empty() || DIRECTIONS.contains(&text))
-            && is_plain_text(self.width(), text)
+        self.is_directed(text) && is_plain_text(self.width(), text)
+    }
+
+    // A directional is missing, or one of the eight words.
+    #[tactic(auto, unfolding(crate::specs::FieldText::directions, crate::specs::Bytes::same_bytes))]
+    fn is_directed(self, text: &[u8]) -> bool
+        ensures { result ≡ is_directed self text.now }
+    {
+        !self.is_directional() || text.is_empty() || DIRECTIONS.contains(&text)
     }
 
     fn is_directional(self) -> bool
