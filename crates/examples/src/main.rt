@@ -30,23 +30,24 @@ impl fmt::Display for Tally {
     }
 }
 
-// Prints what was read of one example, and tells whether that was expected.
-fn run_example(rt: &HostRuntime, example: &Example) -> anyhow::Result<bool> {
+// Prints what was read of one example, and counts whether that was expected.
+fn run_example(rt: &HostRuntime, example: &Example, tally: &mut Tally) -> anyhow::Result<()> {
     let kind = example.kind;
     let shown = example.shown;
     let expected = example.expected;
     let read = format!(in rt.alloc(); "{}", answer(kind, example.texts()))?;
     let agrees = read.as_str() == expected;
+    tally.count(agrees);
     let verdict = if agrees { "agrees" } else { "DIFFERS" };
     println!(rt; "{verdict}: {kind} \"{shown}\" is {read}, expected {expected}")?;
-    Ok(agrees)
+    Ok(())
 }
 
-// Prints the examples of a table, and counts them.
+// Runs the examples of a table, and prints its other lines as they stand.
 fn run_table(rt: &HostRuntime, text: &str, tally: &mut Tally) -> anyhow::Result<()> {
     for line in text.lines() {
         match Example::read(rt.alloc(), line)? {
-            Some(example) => tally.count(run_example(rt, &example)?),
+            Some(example) => run_example(rt, &example, tally)?,
             None => println!(rt; "{line}")?,
         }
     }

@@ -8,11 +8,11 @@ unfoldable pub same_bytes : List ℕ → List ℕ → Bool
 same_bytes a b = bytes_eq a b
 
 -- a byte of plain texts: from space to tilde
-abbrev pub is_printable : ℕ → Bool
-is_printable byte = nat_le 32 byte && nat_le byte 126
+abbrev pub is_printable_byte : ℕ → Bool
+is_printable_byte byte = nat_le 32 byte && nat_le byte 126
 
-abbrev pub IsPrintable : ℕ → Type 0
-IsPrintable byte = (32 ≤ byte) × (byte ≤ 126)
+abbrev pub IsPrintableByte : ℕ → Type 0
+IsPrintableByte byte = (32 ≤ byte) × (byte ≤ 126)
 
 -- of local identifiers: the same without space and colon
 abbrev pub is_local_byte : ℕ → Bool

@@ -1,7 +1,7 @@
 // Bytes of texts: whether two texts are the same, and which bytes a kind of text is made of.
 ghost use Rattle.std.specs.Prelude.{◌≡◌, Decides};
 ghost use Rattle.std.specs.List.{list_all};
-ghost use Rattle.text.specs.Bytes.{is_agency_byte, is_local_byte, is_printable, same_bytes};
+ghost use Rattle.text.specs.Bytes.{is_agency_byte, is_local_byte, is_printable_byte, same_bytes};
 
 /// Whether two texts are the same, byte for byte.
 #[tactic(auto, unfolding(crate::specs::Bytes::same_bytes))]
@@ -14,7 +14,7 @@ pub fn same_bytes(a: &[u8], b: &[u8]) -> bool
 
 // Whether each byte is one that a plain text may have.
 pub(crate) fn is_printable(text: &[u8]) -> bool
-    ensures { result ≡ list_all is_printable text.now }
+    ensures { result ≡ list_all is_printable_byte text.now }
 {
     text.iter().all(|byte| matches!(byte, b' '..=b'~'))
 }
