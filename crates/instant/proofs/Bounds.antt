@@ -31,23 +31,27 @@ some_within : (text : List ℕ) (o : Option Instant) → instant_in text ≡ o �
 some_within text None e = tt
 some_within text (Some instant) e = tells_within text instant ((instant_exactly text).sound instant e)
 
-pub read_within : (text : List ℕ) → SomeWithin (instant_in text)
-read_within text = some_within text (instant_in text) refl
-
 instant_or_exactly : (missing : Instant) (text : List ℕ) → Exactly (TellsOr missing text) (instant_or missing text)
 unfolding has_form instant_in
 instant_or_exactly missing [] =
     record {
-      sound = λ instant e. inl (refl, grind arith);
+      sound = λ instant e. inl (refl, cc);
       complete = λ instant m.
-          elim m [ inl same ↦ rw same.1 | inr tells ↦ absurd (let e = (instant_exactly []).complete instant tells in grind arith) ];
+          elim m [ inl same ↦ rw same.1 | inr tells ↦ cc ((instant_exactly []).complete instant tells) ];
     }
 instant_or_exactly missing (byte ∷ text) =
     record {
       sound = λ instant e. inr ((instant_exactly (byte ∷ text)).sound instant e);
       complete = λ instant m.
-          elim m [ inl same ↦ absurd (let e = same.0 in grind arith) | inr tells ↦ (instant_exactly (byte ∷ text)).complete instant tells ];
+          elim m [ inl same ↦ cc same.0 | inr tells ↦ (instant_exactly (byte ∷ text)).complete instant tells ];
     }
 
 pub exactly_or : (missing : Instant) (text : List ℕ) (r : Option Instant) → r ≡ instant_or missing text → Exactly (TellsOr missing text) r
 exactly_or missing text r e = rw e (instant_or_exactly missing text)
+
+pub exactly_read : (text : List ℕ) (r : Option Instant) → r ≡ instant_in text → Exactly (Tells text) r
+exactly_read text r e = rw e (instant_exactly text)
+
+-- what is promised of an answer that is what the text says
+pub promised : (text : List ℕ) (r : Option Instant) → r ≡ instant_in text → record { meaning : r ≡ instant_in text; exactly : Exactly (Tells text) r; within : SomeWithin r }
+promised text r e = record { meaning = e; exactly = exactly_read text r e; within = rw e (some_within text (instant_in text) refl) }

@@ -3,8 +3,9 @@ mod Days
 mod Digits
 pub mod Exact
 mod Found
+pub mod Fronts
 mod Near
-mod Rests
-mod Shapes
-mod Times
+pub mod Shapes
+mod Tenths
+pub mod Times
 mod Zones

@@ -1,18 +1,22 @@
 -- A date and time of day is read exactly from `YYYY-MM-DDThh:mm:ss`.
-use Rattle.std.proofs.Common.{◌≡◌, ℕ, ◌+◌, ◌*◌, ◌/◌, ◌<◌, true, List, Some, codes, refl, ap, ◌∙◌, arith, lit<, rules}
+use Rattle.std.proofs.Common.{◌≡◌, ℕ, ◌+◌, ◌*◌, ◌/◌, ◌<◌, true, false, List, length, take, length-take, Some, codes, sym, refl, ap, ◌∙◌, arith, lit<, rules}
 use Rattle.std.proofs.lemmas.Slice.Eq.{text_from_reads}
 use Rattle.std.proofs.lemmas.Bool.Decides.{nat_tests}
+use Rattle.std.proofs.lemmas.Option.{cond_some, option_and_then_some}
+use Rattle.std.specs.Option.{option_and_then}
 use Rattle.promise.specs.Exactly.{Exactly}
 use Rattle.instant.specs.declared.local_time.LocalTime.{LocalTime}
 use Rattle.instant.specs.DateTime.{written, is_time, seconds_from_1970, Local}
 use Rattle.instant.specs.Form.{has_form, two_digits}
-use Rattle.instant.specs.Reading.{then, time_at, time_in, seconds_in}
+use Rattle.instant.specs.Reading.{time_at, time_in, seconds_in}
 use Rattle.instant.proofs.Digits.{digit_fits, two_read, four_read}
-use Rattle.instant.proofs.Found.{cond_found, then_found}
-use Rattle.instant.proofs.Shapes.{form_length, mark_at, two_lt, two_at, pair_at}
+use Rattle.instant.proofs.Shapes.{form_by_bytes, form_length, mark_at, two_lt, two_at, pair_at}
 
 abbrev local_form : List ℕ
 local_form = codes "0000-00-00T00:00:00"
+
+pub short_of_local : (text : List ℕ) → length text < 19 → has_form local_form (take 19 text) ≡ false
+short_of_local text h = grind (arith, nat_tests, form_by_bytes, length-take)
 
 time_written : (text : List ℕ) → has_form local_form text ≡ true → text ≡ written (time_at text)
 time_written text h =
@@ -46,16 +50,15 @@ time_of_written t limits =
 time_read : (t : LocalTime) → is_time t ≡ true → time_in (written t) ≡ Some t
 time_read t limits = rw (written_form t) (ap Some (time_of_written t limits))
 
-pub local_exactly : (text : List ℕ) → Exactly (Local text) (then (time_in text) seconds_in)
+pub local_exactly : (text : List ℕ) → Exactly (Local text) (option_and_then seconds_in (time_in text))
 local_exactly text =
     record {
       sound = λ seconds e.
-          let found = then_found (time_in text) seconds_in seconds e in
-          let form = cond_found (has_form local_form text) (Some (time_at text)) found.0 found.1 in
-          let limits = cond_found (is_time found.0) (Some (seconds_from_1970 found.0)) seconds found.2 in
-          let same : time_at text ≡ found.0 = grind arith in
-          let value : seconds ≡ seconds_from_1970 found.0 = grind arith in
-          record { time = found.0; form = time_written text form.0 ∙ ap written same; limits = limits.0; value = value };
+          option_and_then_some seconds_in (time_in text) seconds e
+          (λ time form value.
+          let found = cond_some (has_form local_form text) (time_at text) time form in
+          let limits = cond_some (is_time time) (seconds_from_1970 time) seconds value in
+          record { time = time; form = time_written text found.0 ∙ ap written found.1; limits = limits.0; value = sym limits.1 });
       complete = λ seconds m.
-          ap (λ t. then (time_in t) seconds_in) m.form ∙ ap (λ o. then o seconds_in) (time_read m.time m.limits) ∙ rw (m.limits, m.value);
+          ap (λ t. option_and_then seconds_in (time_in t)) m.form ∙ ap (option_and_then seconds_in) (time_read m.time m.limits) ∙ rw (m.limits, m.value);
     }

@@ -1,5 +1,6 @@
 -- The Gregorian calendar of the years 1900 to 2199, by counting days. Assumes nothing.
-use Rattle.std.specs.Prelude.{ℕ, zero, suc, ◌+◌, ◌-◌, ◌%◌, Bool, cond, not, ◌&&◌, ◌||◌, ℤ, pos, ◌-ℤ◌, Some, None, Option, ◌==◌, nat_le}
+use Rattle.std.specs.Prelude.{ℕ, ◌+◌, ◌-◌, ◌%◌, Bool, cond, not, ◌&&◌, ◌||◌, ℤ, pos, ◌-ℤ◌, Some, None, Option, ◌==◌, nat_le, sum_by}
+use Rattle.std.specs.List.{range_with_len}
 
 abbrev pub first_year : ℕ
 first_year = 1900
@@ -23,13 +24,11 @@ days_in_month long month = cond (month == 2) (cond long 29 28) (cond (has_thirty
 
 -- the days of the first n months of a year
 unfoldable pub days_of_months : Bool → ℕ → ℕ
-days_of_months long zero = 0
-days_of_months long (suc n) = days_of_months long n + days_in_month long (suc n)
+days_of_months long n = sum_by (days_in_month long) (range_with_len 1 n)
 
 -- the days of n years, the first of them 1900
 unfoldable pub days_of_years : ℕ → ℕ
-days_of_years zero = 0
-days_of_years (suc n) = days_of_years n + days_of_months (leap (first_year + n)) 12
+days_of_years n = sum_by (λ year. days_of_months (leap year) 12) (range_with_len first_year n)
 
 abbrev pub days_from_1900 : ℕ → ℕ → ℕ → ℕ
 days_from_1900 year month day = days_of_years (year - first_year) + days_of_months (leap year) (month - 1) + (day - 1)

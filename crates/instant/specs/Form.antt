@@ -1,5 +1,5 @@
 -- Texts of a fixed layout: which bytes stand where, and the numbers that their digits write. Assumes nothing.
-use Rattle.std.specs.Prelude.{ℕ, ◌+◌, ◌-◌, ◌*◌, ◌/◌, ◌%◌, Bool, true, false, cond, ◌&&◌, List, [], ◌∷◌, ◌++◌, ◌==◌, nat_le, slice_index}
+use Rattle.std.specs.Prelude.{ℕ, ◌+◌, ◌-◌, ◌*◌, ◌/◌, ◌%◌, Bool, true, false, cond, ◌&&◌, List, [], ◌∷◌, ◌++◌, length, take, ◌==◌, nat_le, slice_index}
 
 -- a 0 of the form stands for any digit, and any other byte for itself
 abbrev pub fits : ℕ → ℕ → Bool
@@ -10,6 +10,10 @@ has_form [] [] = true
 has_form [] (byte ∷ text) = false
 has_form (mark ∷ form) [] = false
 has_form (mark ∷ form) (byte ∷ text) = fits mark byte && has_form form text
+
+-- the text's front has the form
+abbrev pub begins : List ℕ → List ℕ → Bool
+begins form text = has_form form (take (length form) text)
 
 -- the number that the digit at a place writes, and the two digits from a place on
 abbrev pub one_digit : List ℕ → ℕ → ℕ

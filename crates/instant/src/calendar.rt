@@ -1,6 +1,6 @@
 // The Gregorian calendar of the years 1900 to 2199.
 
-ghost use Rattle.std.specs.Prelude.{◌≡◌, ◌-◌, ◌≤◌, true};
+ghost use Rattle.std.specs.Prelude.{◌≡◌, ◌-◌, true, is_some, IfSome};
 ghost use Rattle.instant.specs.Calendar.{leap, days_in_month, days_of_months, days_of_years, is_date, calendar_day};
 ghost use Rattle.instant.specs.Calendar.{first_year, last_year, days_from_1900};
 
@@ -37,42 +37,64 @@ fn is_date(year: u32, month: u32, day: u32) -> bool
         && day <= days_in_month(year, month)
 }
 
-// The days of the years from 1900 up to, without, this one.
-fn days_before_year(year: u32) -> u32
-    requires { (first_year ≤ year) × (year ≤ last_year) }
-    ensures { result ≡ days_of_years (year - first_year) }
-{
-    let last = year - 1;
-    let leap_years = last / 4 - last / 100 + last / 400 - LEAP_YEARS_BEFORE_1900;
-    365 * (year - FIRST_YEAR) + leap_years
+// A date that the years 1900 to 2199 have.
+#[derive(Clone, Copy)]
+struct Date {
+    year: u32,
+    month: u32,
+    day: u32,
+    ghost on_calendar: { is_date year month day ≡ true },
 }
 
-// The days of the months of the year before this one.
-fn days_before_month(year: u32, month: u32) -> u32
-    requires { (1 ≤ month) × (month ≤ 12) }
-    ensures { result ≡ days_of_months (leap year) (month - 1) }
-{
-    let mut days = 0;
-    for earlier in 1..month {
-        days += days_in_month(year, earlier);
+const EPOCH: Date = Date {
+    year: 1970,
+    month: 1,
+    day: 1,
+};
+
+impl Date {
+    fn new(year: u32, month: u32, day: u32) -> Option<Date>
+        ensures found { is_some result ≡ is_date year month day }
+        ensures numbers { IfSome result (λ date. (date.year ≡ year) × (date.month ≡ month) × (date.day ≡ day)) }
+    {
+        if is_date(year, month, day) {
+            Some(Date { year, month, day })
+        } else {
+            None
+        }
     }
-    days
-}
 
-fn days_from_1900(year: u32, month: u32, day: u32) -> u32
-    requires { is_date year month day ≡ true }
-    ensures { result ≡ days_from_1900 year month day }
-{
-    days_before_year(year) + days_before_month(year, month) + (day - 1)
+    // The days of the years from 1900 up to, without, the date's.
+    fn days_before_year(self) -> u32
+        ensures { result ≡ days_of_years (self.year - first_year) }
+    {
+        let last = self.year - 1;
+        let leap_years = last / 4 - last / 100 + last / 400 - LEAP_YEARS_BEFORE_1900;
+        365 * (self.year - FIRST_YEAR) + leap_years
+    }
+
+    // The days of the months of its year before the date's.
+    #[tactic(auto, unfolding(crate::specs::Calendar::days_of_months))]
+    fn days_before_month(self) -> u32
+        ensures { result ≡ days_of_months (leap self.year) (self.month - 1) }
+    {
+        (1..self.month)
+            .map(|month| days_in_month(self.year, month))
+            .sum()
+    }
+
+    #[tactic(auto, using(crate::proofs::Days::days_from_1900_le))]
+    fn days_from_1900(self) -> u32
+        ensures { result ≡ days_from_1900 self.year self.month self.day }
+    {
+        self.days_before_year() + self.days_before_month() + (self.day - 1)
+    }
 }
 
 /// The days from 1970-01-01 to the date, negative before it; none if the years 1900 to 2199 have no such date.
 pub fn days_from_1970(year: u32, month: u32, day: u32) -> Option<i64>
     ensures { result ≡ calendar_day year month day }
 {
-    if is_date(year, month, day) {
-        Some(i64::from(days_from_1900(year, month, day)) - i64::from(days_from_1900(1970, 1, 1)))
-    } else {
-        None
-    }
+    let date = Date::new(year, month, day)?;
+    Some(i64::from(date.days_from_1900()) - i64::from(EPOCH.days_from_1900()))
 }

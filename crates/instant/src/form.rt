@@ -1,6 +1,6 @@
 // Texts of a fixed layout.
 
-ghost use Rattle.std.specs.Prelude.{◌≡◌, ◌+◌, ◌<◌, ◌≤◌, true, length, take};
+ghost use Rattle.std.specs.Prelude.{◌≡◌, ◌+◌, ◌<◌, true, length};
 ghost use Rattle.instant.specs.Form.{fits, has_form, one_digit, two_digits};
 
 // A 0 of the form stands for any digit, and any other byte for itself.
@@ -14,30 +14,15 @@ fn fits(mark: u8, byte: u8) -> bool
     }
 }
 
+#[tactic(auto, using(crate::proofs::Shapes::form_by_bytes))]
 pub(crate) fn has_form(form: &[u8], text: &[u8]) -> bool
     ensures length { result ≡ true → length text.now ≡ length form.now }
     ensures meaning { result ≡ has_form form.now text.now }
 {
-    if form.len() != text.len() {
-        return false;
-    }
-    for (i, mark) in form.iter().enumerate() {
-        if !fits(*mark, text[i]) {
-            return false;
-        }
-    }
-    true
+    form.len() == text.len() && form.iter().zip(text).all(|(mark, byte)| fits(*mark, *byte))
 }
 
-// Whether the text's front has the form.
-pub(crate) fn begins(form: &[u8], text: &[u8]) -> bool
-    ensures length { result ≡ true → length form.now ≤ length text.now }
-    ensures meaning { result ≡ has_form form.now (take (length form.now) text.now) }
-{
-    form.len() <= text.len() && has_form(form, &text[0..form.len()])
-}
-
-pub(crate) fn one_digit(text: &[u8], place: usize) -> u32
+fn one_digit(text: &[u8], place: usize) -> u32
     requires { place < length text.now }
     ensures { result ≡ one_digit text.now place }
 {

@@ -15,6 +15,7 @@ impl Instant {
         tenths: 1_000_000_000_000,
     };
 
+    #[tactic(auto, using(crate::proofs::Bounds::exactly_or))]
     fn read_or(missing: Instant, text: &[u8]) -> Option<Instant>
         ensures meaning { result ≡ instant_or missing text.now }
         ensures exactly { Exactly (TellsOr missing text.now) result }
@@ -46,6 +47,6 @@ impl Instant {
     pub fn is_within_limits(self) -> bool
         ensures { result ≡ is_within self }
     {
-        Self::EARLIEST.tenths <= self.tenths && self.tenths < Self::LATEST.tenths
+        (Self::EARLIEST..Self::LATEST).contains(&self)
     }
 }

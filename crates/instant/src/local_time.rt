@@ -18,11 +18,13 @@ pub(crate) struct LocalTime {
 }
 
 impl LocalTime {
+    pub(crate) const FORM: &'static [u8; 19] = b"0000-00-00T00:00:00";
+
     // Reads `YYYY-MM-DDThh:mm:ss`; the numbers may still be past their limits.
     pub(crate) fn read(text: &[u8]) -> Option<LocalTime>
         ensures { result ≡ time_in text.now }
     {
-        if !has_form(b"0000-00-00T00:00:00", text) {
+        if !has_form(Self::FORM, text) {
             return None;
         }
         Some(LocalTime {

@@ -14,10 +14,10 @@ impl Bound for Instant {
     ghost total = { instants_total };
 
     fn precedes(self, other: Instant) -> bool {
-        self.tenths < other.tenths
+        self < other
     }
 
     fn is_level_with(self, other: Instant) -> bool {
-        self.tenths == other.tenths
+        self == other
     }
 }

@@ -1,6 +1,6 @@
 -- Instants are in a total order.
 use Rattle.std.specs.Prelude.{◌≡◌, Bool, true, false, not, ◌&&◌, ℤ, ◌≢◌, int_lt, refl}
-use Rattle.std.proofs.Common.{ap, arith}
+use Rattle.std.proofs.Common.{arith}
 use Rattle.std.proofs.lemmas.Int.{ints}
 use Rattle.territory.specs.Order.{OneOf, only_first, only_second, only_third, Total}
 use Rattle.instant.specs.Instants.{instant_before, instant_level}
@@ -11,19 +11,13 @@ one_of true false apart = only_first
 one_of false true apart = only_third
 one_of false false apart = only_second
 
-apart : (x y : ℤ) → int_lt x y ≡ true → int_lt y x ≢ true
-apart x y h k = grind (arith, ints)
-
-carries : (x y z : ℤ) → int_lt x y ≡ true → int_lt y z ≡ true → int_lt x z ≡ true
-carries x y z h k = grind (arith, ints)
-
 level : (x y : ℤ) → (not (int_lt x y) && not (int_lt y x)) ≡ true → x ≡ y
 level x y h = grind (arith, ints)
 
 pub instants_total : Total instant_before instant_level
 instants_total =
     record {
-      one = λ a b. one_of (instant_before a b) (instant_before b a) (apart a.tenths b.tenths);
-      carries = λ a b c. carries a.tenths b.tenths c.tenths;
-      stands = λ a b c h. let e = level a.tenths b.tenths h in (ap (λ t. int_lt t c.tenths) e, ap (int_lt c.tenths) e);
+      one = λ a b. one_of (instant_before a b) (instant_before b a) (λ h k. grind (arith, ints));
+      carries = λ a b c h k. grind (arith, ints);
+      stands = λ a b c h. let e = level a.tenths b.tenths h in (cc, cc);
     }
