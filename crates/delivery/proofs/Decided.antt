@@ -1,8 +1,8 @@
 -- Each test of the checks decides its rule. Assumes nothing.
-use Rattle.std.proofs.Common.{◌≡◌, ℕ, true, false, not, ◌⊎◌, List, is_some, Some, None, Decides, Option, sym, refl, ◌∙◌, subst, arith}
-use Rattle.std.proofs.lemmas.Bool.{true≢false, false≢true}
-use Rattle.std.proofs.lemmas.Bool.Decides.{Decides-or, Decides-ltb, Decides-like, nat_tests}
+use Rattle.std.proofs.Common.{◌≡◌, ℕ, not, ◌⊎◌, List, is_some, Some, Decides, refl, subst, arith}
+use Rattle.std.proofs.lemmas.Bool.Decides.{Decides-or, Decides-not, Decides-ltb, Decides-like, nat_tests}
 use Rattle.promise.specs.Exactly.{Exactly}
+use Rattle.promise.proofs.Decided.{exactly_decides}
 use Rattle.promise.proofs.Firsts.{any_decides}
 use Rattle.delivery.specs.Kinds.{kind_number, kind_numbered}
 use Rattle.delivery.specs.Opening.{no_table, bad_entry, shares_earlier, share_a_byte}
@@ -18,23 +18,22 @@ found_again Point = refl
 found_again RoadRetirement = refl
 found_again PointRetirement = refl
 
-pub kind_exactly : (n : ℕ) → Exactly (λ k. kind_number k ≡ n) (kind_numbered n)
+kind_exactly : (n : ℕ) → Exactly (λ k. kind_number k ≡ n) (kind_numbered n)
 kind_exactly n = record {
   sound = λ k e. grind (arith, nat_tests);
   complete = λ k e. subst (λ m. kind_numbered m ≡ Some k) e (found_again k);
 }
 
 -- no kind has the number
-pub by_kind : (n : ℕ) (answer : Option Kind) → kind_numbered n ≡ answer → Decides (not (is_some answer)) ((k : Kind) → kind_number k ≡ n → ⊥)
-by_kind n None e = (λ _ k h. absurd (let z : true ≡ false = let same = sym e ∙ (kind_exactly n).complete k h in cc in true≢false z), λ _. refl)
-by_kind n (Some k) e = (λ h. absurd (false≢true h), λ other. absurd (other k ((kind_exactly n).sound k e)))
+pub other_kind : (n : ℕ) → Decides (not (is_some (kind_numbered n))) ((k : Kind) → kind_number k ≡ n → ⊥)
+other_kind n = Decides-like _ (λ none k h. none (k, h)) (λ none w. none w.0 w.1) (Decides-not _ (exactly_decides _ _ (kind_exactly n)))
 
 module _ (bytes : List ℕ) where
   pub table_decides : Decides (no_table bytes) (LacksTable bytes)
   table_decides = Decides-or _ _ (Decides-or _ _ (Decides-ltb _ _) (Decides-ltb _ _)) (Decides-or _ _ (Decides-ltb _ _) (Decides-ltb _ _))
 
   pub bad_decides : (entry : ℕ) → Decides (bad_entry bytes entry) (OtherKind bytes entry ⊎ Misplaced bytes entry)
-  bad_decides entry = Decides-or _ _ (by_kind _ _ refl) (Decides-or _ _ (Decides-ltb _ _) (Decides-ltb _ _))
+  bad_decides entry = Decides-or _ _ (other_kind _) (Decides-or _ _ (Decides-ltb _ _) (Decides-ltb _ _))
 
   pub shares_decides : (entry : ℕ) → Decides (shares_earlier bytes entry) (SharesEarlier bytes entry)
   shares_decides entry =

@@ -1,35 +1,24 @@
 -- The reason given is the first that applies, and an opened delivery keeps its bodies apart. Assumes nothing.
-use Rattle.std.proofs.Common.{◌≡◌, ℕ, ◌+◌, ◌<◌, ◌≤◌, Bool, true, false, cond, List, length, is_some, IfOk, Some, None, Ok, Err, Option, Result, sym, refl, ap, ◌∙◌, subst, inl, inr, ⊎_elim, arith}
-use Rattle.std.proofs.lemmas.Bool.{true≢false, cases_Bool, cases_lt, cases_order, lt-ltb, le-leb, not_from_false}
-use Rattle.std.proofs.lemmas.Bool.Decides.{not_from_Decides}
+use Rattle.std.proofs.Common.{◌≡◌, ℕ, ◌+◌, ◌<◌, ◌≤◌, Bool, true, false, cond, List, length, is_some, Some, None, Option, refl, subst, inl, inr, ⊎_elim, arith}
+use Rattle.std.proofs.lemmas.Bool.{cases_Bool, cases_lt, cases_order, lt-ltb, le-leb, not_from_false}
+use Rattle.std.proofs.lemmas.Bool.Decides.{not_from_Decides, nat_tests}
 use Rattle.std.specs.Option.{option_map, option_or}
-use Rattle.std.specs.Result.{result_err, result_map_both}
 use Rattle.promise.specs.First.{first_below}
 use Rattle.promise.specs.Reasons.{ListedBefore}
 use Rattle.promise.proofs.Firsts.{first_found, none_found}
 use Rattle.delivery.specs.Contents.{entry_count, table_end, kind_byte, body_end}
 use Rattle.delivery.specs.Kinds.{kind_numbered}
-use Rattle.delivery.specs.Opened.{contents, opening, unless_refused, GivesAll}
+use Rattle.delivery.specs.Opened.{GivesAll}
 use Rattle.delivery.specs.Opening.{most_bytes, no_table, bad_entry, shares_earlier, refusal_of}
 use Rattle.delivery.specs.Refusals.{refusal_number, told_entry}
 use Rattle.delivery.specs.Rules.{Applies, RefusedRightly, BodiesApart}
-use Rattle.delivery.specs.declared.deliveries.Delivery.{Delivery}
 use Rattle.delivery.specs.declared.refusals.DeliveryRefusal.{DeliveryRefusal}
 use Rattle.delivery.specs.declared.refusals.DeliveryRefusal.TheVariants.{NoTable, BadEntry, SharedByte}
-use Rattle.delivery.proofs.Decided.{by_kind, table_decides, bad_decides, shares_decides}
-
-some_same : {A : Type 0} {x y : A} → Some x ≡ Some y → x ≡ y
-some_same e = cc
-
-ok_same : {A E : Type 0} {x y : A} → ◌≡◌ {A = Result A E} (Ok x) (Ok y) → x ≡ y
-ok_same e = cc
+use Rattle.delivery.proofs.Decided.{other_kind, table_decides, bad_decides, shares_decides}
 
 some_mapped : {A B : Type 0} (f : A → B) (o : Option A) → is_some o ≡ true → is_some (option_map f o) ≡ true
 some_mapped f None h = h
 some_mapped f (Some x) h = refl
-
-some_none : {A : Type 0} {x : A} → Some x ≡ None → ⊥
-some_none e = true≢false (let z : true ≡ false = cc in z)
 
 module _ (bytes : List ℕ) where
   has_table : no_table bytes ≡ false → Applies bytes NoTable → ⊥
@@ -43,9 +32,9 @@ module _ (bytes : List ℕ) where
 
   given : (r : DeliveryRefusal) → Applies bytes r → ((s : DeliveryRefusal) → Applies bytes s → ListedBefore refusal_number told_entry s r → ⊥) → RefusedRightly bytes (Some r)
   given r holds firsts = record {
-    applies = λ t h. subst (Applies bytes) (some_same h) holds;
-    first = λ t s h a b. firsts s a (subst (ListedBefore refusal_number told_entry s) (sym (some_same h)) b);
-    none = λ h. absurd (some_none h);
+    applies = λ t h. let same : r ≡ t = cc in subst (Applies bytes) same holds;
+    first = λ t s h a b. let same : t ≡ r = cc in firsts s a (subst (ListedBefore refusal_number told_entry s) same b);
+    none = λ h. cc;
   }
 
   firsts_0 : (s : DeliveryRefusal) → ListedBefore refusal_number told_entry s NoTable → ⊥
@@ -78,76 +67,61 @@ module _ (bytes : List ℕ) where
       let at_i = first_found _ _ i g in
       given (SharedByte i) (omega (arith, at_i.below), (shares_decides bytes i).0 at_i.passes) (firsts_shared e i (none_found _ _ f) (λ j h. at_i.none_before j (omega arith) h))
   at false None None e f g = record {
-    applies = λ r h. absurd (some_none (sym h));
-    first = λ r s h. absurd (some_none (sym h));
+    applies = λ r h. cc;
+    first = λ r s h. cc;
     none = λ _. none_applies e (none_found _ _ f) (none_found _ _ g);
   }
 
   pub refused_rightly : RefusedRightly bytes (refusal_of bytes)
   refused_rightly = at _ _ _ refl refl refl
 
-  pub bodies_apart : refusal_of bytes ≡ None → BodiesApart bytes
-  bodies_apart opened =
-      let never = refused_rightly.none opened in
-      record {
-        after_table = λ i h. ⊎_elim (λ before. absurd (never (BadEntry i) (h, inr (inl before)))) (λ after. after) (cases_lt _ _);
-        inside = λ i h. ⊎_elim (λ past. absurd (never (BadEntry i) (h, inr (inr past)))) (λ inside. inside) (cases_lt _ _);
-        apart = λ i j b h k in_i in_j.
-            ⊎_elim
-            (λ same. same)
-            (⊎_elim
-            (λ below. absurd (never (SharedByte j) (k, (i, b, below, in_i, in_j))))
-            (λ above. absurd (never (SharedByte i) (h, (j, b, above, in_j, in_i)))))
-            (cases_order i j);
-      }
+  pub told_rightly : (refusal : Option DeliveryRefusal) → refusal_of bytes ≡ refusal → RefusedRightly bytes refusal
+  told_rightly refusal told = subst (RefusedRightly bytes) told refused_rightly
 
-  known_kind : (n : ℕ) → (Applies bytes (BadEntry n) → ⊥) → n < entry_count bytes → is_some (kind_numbered (kind_byte bytes n)) ≡ true
-  known_kind n good h =
-      ⊎_elim
-      (λ known. known)
-      (λ other. absurd (good (h, inl ((by_kind _ _ refl).0 (not_from_false _ other)))))
-      (cases_Bool (is_some (kind_numbered (kind_byte bytes n))))
-
-  pub gives_all : refusal_of bytes ≡ None → GivesAll (record { bytes = bytes; count = entry_count bytes })
-  gives_all opened =
-      let never = refused_rightly.none opened in
-      let table : table_end (entry_count bytes) ≤ length bytes = ⊎_elim (λ short. absurd (never NoTable (inr (inr short)))) (λ h. h) (cases_lt _ _) in
-      record {
-        entries = λ i h. rw (lt-ltb _ _ h, le-leb (table_end (i + 1)) (length bytes) (omega arith)) (some_mapped _ _ (known_kind i (never (BadEntry i)) h));
-        bodies = λ i h. rw (lt-ltb _ _ h, le-leb (table_end (i + 1)) (length bytes) (omega arith), le-leb _ _ ((bodies_apart opened).inside i h)) refl;
-      }
+  within_most : (n : ℕ) → no_table bytes ≡ false → bad_entry bytes n ≡ false → body_end bytes n ≤ most_bytes
+  within_most n table good = grind (arith, nat_tests)
 
   -- a body of a delivery that passes the first two checks does not pass the most bytes that there can be
-  pub body_fits : (n : ℕ) → no_table bytes ≡ false → bad_entry bytes n ≡ false → body_end bytes n ≤ most_bytes
-  body_fits n table good =
-      let small : length bytes ≤ most_bytes = ⊎_elim (λ over. absurd (not_from_Decides _ (table_decides bytes) table (inl (inr over)))) (λ h. h) (cases_lt most_bytes (length bytes)) in
-      let inside : body_end bytes n ≤ length bytes = ⊎_elim (λ over. absurd (not_from_Decides _ (bad_decides bytes n) good (inr (inr over)))) (λ h. h) (cases_lt (length bytes) (body_end bytes n)) in
-      omega arith
+  pub body_fits : (count n : ℕ) → no_table bytes ≡ false → first_below (bad_entry bytes) count ≡ None → n < count → body_end bytes n ≤ most_bytes
+  body_fits count n table good h = within_most n table (none_found _ count good n h)
 
--- what an answer refuses for, where it follows a refusal or its absence
-err_of : {D C : Type 0} (f : D → C) (x : C) (answer : Result D DeliveryRefusal) (refusal : Option DeliveryRefusal) → result_map_both f (λ e. e) answer ≡ unless_refused x refusal → result_err answer ≡ refusal
-err_of f x (Ok d) None e = refl
-err_of f x (Ok d) (Some r) e = absurd (true≢false (let z : true ≡ false = cc in z))
-err_of f x (Err r) None e = absurd (true≢false (let z : true ≡ false = cc in z))
-err_of f x (Err r) (Some s) e = cc
+-- what an opened delivery keeps
+module _ (bytes : List ℕ) (opened : refusal_of bytes ≡ None) where
+  never : (r : DeliveryRefusal) → Applies bytes r → ⊥
+  never = (refused_rightly bytes).none opened
 
-module _ (bytes : List ℕ) where
-  -- what `open` answers
-  abbrev Answers : Result Delivery DeliveryRefusal → Type 0
-  Answers answer = result_map_both contents (λ e. e) answer ≡ opening bytes
+  pub bodies_apart : BodiesApart bytes
+  bodies_apart = record {
+    after_table = λ i h. ⊎_elim (λ before. absurd (never (BadEntry i) (h, inr (inl before)))) (λ after. after) (cases_lt _ _);
+    inside = λ i h. ⊎_elim (λ past. absurd (never (BadEntry i) (h, inr (inr past)))) (λ inside. inside) (cases_lt _ _);
+    apart = λ i j b h k in_i in_j.
+        ⊎_elim
+        (λ same. same)
+        (⊎_elim
+        (λ below. absurd (never (SharedByte j) (k, (i, b, below, in_i, in_j))))
+        (λ above. absurd (never (SharedByte i) (h, (j, b, above, in_j, in_i)))))
+        (cases_order i j);
+  }
 
-  refuses : (answer : Result Delivery DeliveryRefusal) → Answers answer → result_err answer ≡ refusal_of bytes
-  refuses answer e = err_of contents _ answer (refusal_of bytes) e
+  has_lines : table_end (entry_count bytes) ≤ length bytes
+  has_lines = ⊎_elim (λ short. absurd (never NoTable (inr (inr short)))) (λ h. h) (cases_lt _ _)
 
-  pub answered_rightly : (answer : Result Delivery DeliveryRefusal) → Answers answer → RefusedRightly bytes (result_err answer)
-  answered_rightly answer e = subst (RefusedRightly bytes) (sym (refuses answer e)) (refused_rightly bytes)
+  known_kind : (n : ℕ) → n < entry_count bytes → is_some (kind_numbered (kind_byte bytes n)) ≡ true
+  known_kind n h =
+      ⊎_elim
+      (λ known. known)
+      (λ other. absurd (never (BadEntry n) (h, inl ((other_kind _).0 (not_from_false _ other)))))
+      (cases_Bool (is_some (kind_numbered (kind_byte bytes n))))
 
-  pub answered_apart : (answer : Result Delivery DeliveryRefusal) → Answers answer → IfOk answer (λ _. BodiesApart bytes)
-  answered_apart (Ok d) e = bodies_apart bytes (sym (refuses (Ok d) e))
-  answered_apart (Err r) e = tt
+module _ (bytes : List ℕ) (count : ℕ) (listed : count ≡ entry_count bytes) (opened : refusal_of bytes ≡ None) where
+  pub inside : (n : ℕ) → n < count → body_end bytes n ≤ length bytes
+  inside n h = (bodies_apart bytes opened).inside n (omega arith)
 
-  pub answered_whole : (answer : Result Delivery DeliveryRefusal) → Answers answer → IfOk answer (λ d. GivesAll (contents d))
-  answered_whole (Ok d) e =
-      let none = sym (refuses (Ok d) e) in
-      subst GivesAll (ok_same (sym (e ∙ ap (unless_refused _) none))) (gives_all bytes none)
-  answered_whole (Err r) e = tt
+  has_line : (n : ℕ) → n < count → table_end (n + 1) ≤ length bytes
+  has_line n h = omega (arith, has_lines bytes opened)
+
+  pub gives_all : GivesAll (record { bytes = bytes; count = count })
+  gives_all = record {
+    entries = λ n h. rw (lt-ltb _ _ h, le-leb _ _ (has_line n h)) (some_mapped _ _ (known_kind bytes opened n (omega arith)));
+    bodies = λ n h. rw (lt-ltb _ _ h, le-leb _ _ (has_line n h), le-leb _ _ (inside n h)) refl;
+  }

@@ -1,6 +1,7 @@
 -- A body shares a byte with an earlier one exactly when one of its bytes is taken. Assumes nothing.
-use Rattle.std.proofs.Common.{◌≡◌, ℕ, ◌+◌, ◌<◌, ◌≤◌, Bool, true, false, not, ◌||◌, List, get_or, is_some, Some, None, Decides, Option, sym, refl, ap, ◌∙◌, ⊎_elim}
-use Rattle.std.proofs.lemmas.Bool.{true≢false, false≢true, cases_Bool, and_parts, and_from, not-true, not_from_false, ltb-true, ltb-false, lt-ltb, le-ltb}
+use Rattle.std.proofs.Common.{◌≡◌, ℕ, ◌+◌, ◌<◌, ◌≤◌, Bool, true, false, not, ◌||◌, List, get_or, is_some, Some, None, Decides, Option, sym, refl, ap, ◌∙◌, arith}
+use Rattle.std.proofs.lemmas.Bool.{true≢false, false≢true, false_from_ne_true}
+use Rattle.std.proofs.lemmas.Bool.Decides.{nat_tests}
 use Rattle.promise.specs.First.{any_below}
 use Rattle.promise.proofs.Firsts.{any_decides, any_none, any_more}
 use Rattle.territory.specs.BytePlaces.{byte_place, place_before, place_level}
@@ -12,6 +13,7 @@ use Rattle.territory.specs.Laws.Numbered.{by_number}
 use Rattle.territory.specs.Laws.Stretched.{stretch_lawful}
 use Rattle.delivery.specs.Contents.{body_place, body_end}
 use Rattle.delivery.specs.Opening.{share_a_byte, shares_earlier}
+use Rattle.delivery.specs.Rules.{InBody}
 use Rattle.delivery.specs.Taken.{Free, taken_also}
 
 spans : Lawful (λ (s : Stretch BytePlace) p. lies_within place_before s.first s.end p) place_level (λ s t. meeting place_before s.first s.end t.first t.end)
@@ -22,10 +24,7 @@ module _ (bytes : List ℕ) where
   in_body b entry = lies_within place_before (byte_place (body_place bytes entry)) (byte_place (body_end bytes entry)) (byte_place b)
 
   pub in_body_bounds : (b entry : ℕ) → Decides (in_body b entry) ((body_place bytes entry ≤ b) × (b < body_end bytes entry))
-  in_body_bounds b entry = (
-    λ h. let parts = and_parts _ _ h in (ltb-false _ _ (not-true _ parts.0), ltb-true _ _ parts.1),
-    λ h. and_from _ _ (not_from_false _ (le-ltb _ _ h.0)) (lt-ltb _ _ h.1),
-  )
+  in_body_bounds b entry = (λ h. grind (arith, nat_tests), λ h. grind (arith, nat_tests))
 
   abbrev span : ℕ → Stretch BytePlace
   span entry = from_to (byte_place (body_place bytes entry)) (byte_place (body_end bytes entry))
@@ -42,31 +41,30 @@ module _ (bytes : List ℕ) where
   abbrev pub Marked : ℕ → List Bool → Type 0
   Marked n taken = (b : ℕ) → get_or taken b false ≡ any_below (in_body b) n
 
-  pub shares_if_taken : (n : ℕ) (taken : List Bool) (free : Bool) → Marked n taken → Decides free (Free taken (body_place bytes n) (body_end bytes n)) → shares_earlier bytes n ≡ not free
-  shares_if_taken n taken true marked decides =
-      ⊎_elim
-      (λ shares.
-      let w = (any_decides (share_a_byte bytes n) n).0 shares in
-      let b = (share_decides n w.0).0 w.2 in
-      let own = (in_body_bounds b.0 n).0 b.1 in
-      let taken_by = (any_decides (in_body b.0) n).1 (w.0, w.1, b.2) in
-      absurd (true≢false (sym taken_by ∙ sym (marked b.0) ∙ decides.0 refl b.0 own.0 own.1)))
-      (λ none. none)
-      (cases_Bool (shares_earlier bytes n))
-  shares_if_taken n taken false marked decides =
-      ⊎_elim
-      (λ shares. shares)
-      (λ none.
-      let free : Free taken (body_place bytes n) (body_end bytes n) = λ b from below.
-      ⊎_elim
-      (λ some.
+  -- some earlier body has the byte, where its mark says so
+  earlier : (n b : ℕ) → InBody bytes n b → any_below (in_body b) n ≡ true → shares_earlier bytes n ≡ true
+  earlier n b own some =
       let w = (any_decides (in_body b) n).0 some in
-      let both = (share_decides n w.0).1 (b, (in_body_bounds b n).1 (from, below), w.2) in
-      absurd (true≢false (sym ((any_decides (share_a_byte bytes n) n).1 (w.0, w.1, both)) ∙ none)))
-      (λ not_any. marked b ∙ not_any)
-      (cases_Bool (any_below (in_body b) n)) in
-      absurd (false≢true (decides.1 free)))
-      (cases_Bool (shares_earlier bytes n))
+      (any_decides (share_a_byte bytes n) n).1 (w.0, w.1, (share_decides n w.0).1 (b, (in_body_bounds b n).1 own, w.2))
+
+  -- a body shares no byte exactly when all its bytes are free
+  pub alone_decides : (n : ℕ) (taken : List Bool) → Marked n taken → Decides (not (shares_earlier bytes n)) (Free taken (body_place bytes n) (body_end bytes n))
+  alone_decides n taken marked = by (shares_earlier bytes n) refl
+    where
+      by : (shares : Bool) → shares_earlier bytes n ≡ shares → Decides (not shares) (Free taken (body_place bytes n) (body_end bytes n))
+      by true shares = (
+        λ h. absurd (false≢true h),
+        λ free.
+            let w = (any_decides (share_a_byte bytes n) n).0 shares in
+            let b = (share_decides n w.0).0 w.2 in
+            let own = (in_body_bounds b.0 n).0 b.1 in
+            let some = (any_decides (in_body b.0) n).1 (w.0, w.1, b.2) in
+            absurd (true≢false (sym some ∙ sym (marked b.0) ∙ free b.0 own.0 own.1)),
+      )
+      by false alone = (
+        λ _ b from below. marked b ∙ false_from_ne_true _ (λ some. true≢false (sym (earlier n b (from, below) some) ∙ alone)),
+        λ _. refl,
+      )
 
   pub none_marked : (taken : List Bool) → ((b : ℕ) → get_or taken b false ≡ false) → Marked 0 taken
   none_marked taken free b = free b ∙ sym (any_none (in_body b))

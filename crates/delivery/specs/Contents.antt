@@ -1,10 +1,6 @@
 -- How the table of contents lies in the bytes of a delivery: a two-byte count, then five bytes for each entry:
 -- its kind (1), the place of its body (2) and the length of its body (2), highest byte first. Assumes nothing.
 use Rattle.std.specs.Prelude.{ℕ, ◌+◌, ◌*◌, List, slice_index}
-use Rattle.territory.specs.BytePlaces.{byte_place}
-use Rattle.territory.specs.Stretches.{from_to}
-use Rattle.territory.specs.declared.byte_places.BytePlace.{BytePlace}
-use Rattle.territory.specs.declared.stretches.Stretch.{Stretch}
 
 abbrev pub number_at : List ℕ → ℕ → ℕ
 number_at bytes at = 256 * slice_index bytes at + slice_index bytes (at + 1)
@@ -27,7 +23,3 @@ body_length bytes entry = number_at bytes (table_end entry + 3)
 
 abbrev pub body_end : List ℕ → ℕ → ℕ
 body_end bytes entry = body_place bytes entry + body_length bytes entry
-
--- the bytes of a body, as a stretch
-abbrev pub body_stretch : List ℕ → ℕ → Stretch BytePlace
-body_stretch bytes entry = from_to (byte_place (body_place bytes entry)) (byte_place (body_end bytes entry))

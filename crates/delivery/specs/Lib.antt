@@ -6,3 +6,4 @@ pub mod Opening
 pub mod Refusals
 pub mod Rules
 pub mod Taken
+pub mod Texts

@@ -1,21 +1,9 @@
 // Opening a delivery, and what an opened one gives.
-ghost use Rattle.std.specs.Prelude.{◌≡◌, IfOk, OnOk};
-ghost use Rattle.std.specs.Option.{option_map};
-ghost use Rattle.std.specs.Result.{result_err, result_map_both};
-ghost use Rattle.delivery.specs.Opened.{opening, contents, GivesAll, entry_at, body_at, body_part};
-ghost use Rattle.delivery.specs.Rules.{RefusedRightly, BodiesApart};
+ghost use Rattle.std.specs.Prelude.{◌≡◌, None};
+ghost use Rattle.delivery.specs.Opening.{refusal_of};
 
-use crate::checks::{first_bad_entry, first_sharing_entry, listed_count};
-use crate::contents::{body_length, body_place, has_line, table_end};
-use crate::{DeliveryRefusal, Kind};
-
-/// A line of the table: what the body describes, and where it lies.
-#[derive(Clone, Copy)]
-pub struct Entry {
-    pub kind: Kind,
-    pub place: u16,
-    pub length: u16,
-}
+use crate::contents::Table;
+use crate::{DeliveryRefusal, Entries, Entry, Kind};
 
 /// A part of the delivery, with its place.
 #[derive(Clone, Copy)]
@@ -24,80 +12,82 @@ pub struct Body<'a> {
     pub place: usize,
 }
 
-/// An opened delivery.
+/// An opened delivery: no reason to refuse it applies.
 #[derive(Clone, Copy)]
 pub struct Delivery<'a> {
-    bytes: &'a [u8],
-    count: usize,
+    table: Table<'a>,
+    ghost opened: { refusal_of table.bytes.now ≡ None },
 }
 
 impl<'a> Delivery<'a> {
+    ghost use Rattle.std.specs.Prelude.{◌≤◌, length, IfOk, OnOk};
+    ghost use Rattle.std.specs.Option.{option_map};
+    ghost use Rattle.std.specs.Result.{result_err, result_map_both};
+    ghost use Rattle.delivery.specs.Opened.{opening, contents, GivesAll, entry_at, entries_from, entries_left, body_at, body_part};
+    ghost use Rattle.delivery.specs.Opening.{most_entries};
+    ghost use Rattle.delivery.specs.Rules.{RefusedRightly, BodiesApart};
+
     /// Checks the table of contents, and refuses with the first reason that applies.
+    #[tactic(auto, using(crate::proofs::Refused::gives_all, crate::proofs::Refused::bodies_apart))]
     pub fn open(bytes: &'a [u8]) -> Result<Delivery<'a>, DeliveryRefusal>
         ensures value { result_map_both contents (λ e. e) result ≡ opening bytes.now }
         ensures rightly { RefusedRightly bytes.now (result_err result) }
         ensures given { IfOk result (λ d. GivesAll (contents d)) }
         ensures apart { OnOk result (BodiesApart bytes.now) }
     {
-        opened(bytes)
+        let table = Table::find(bytes)?;
+        table.check_entries()?;
+        table.check_sharing()?;
+        Ok(Delivery { table })
     }
 
     /// How many entries the table lists.
     pub fn entry_count(&self) -> usize
-        ensures { result ≡ self.now.count }
+        ensures { result ≡ (contents self.now).count }
     {
-        self.count
+        self.table.count
     }
 
     /// An entry by its number, from 0.
     pub fn entry(&self, number: usize) -> Option<Entry>
         ensures { result ≡ entry_at (contents self.now) number }
     {
-        let bytes = self.bytes;
-        if number >= self.count || !has_line(bytes, number) {
+        if number >= self.table.count {
             return None;
         }
-        let kind = Kind::from_number(bytes[table_end(number)])?;
-        let place = body_place(bytes, number);
-        let length = body_length(bytes, number);
+        let line = self.table.line(number);
         Some(Entry {
-            kind,
-            place,
-            length,
+            kind: Kind::try_from(line.kind).ok()?,
+            place: line.place,
+            length: line.length,
         })
+    }
+
+    /// The entries that the table lists, in order.
+    #[tactic(auto, using(crate::proofs::Listed::few_entries))]
+    pub fn entries(&self) -> Entries<'a>
+        ensures all { entries_left result ≡ entries_from (contents self.now) 0 }
+        ensures few { length (entries_left result) ≤ most_entries }
+    {
+        Entries {
+            delivery: *self,
+            number: 0,
+        }
     }
 
     /// The body of an entry, as a part of the delivery.
+    #[tactic(auto, using(crate::proofs::Refused::inside))]
     pub fn body(&self, number: usize) -> Option<Body<'a>>
         ensures { option_map body_part result ≡ body_at (contents self.now) number }
     {
-        let bytes = self.bytes;
-        if number >= self.count || !has_line(bytes, number) {
+        if number >= self.table.count {
             return None;
         }
-        let place = body_place(bytes, number) as usize;
-        let end = place + body_length(bytes, number) as usize;
-        if end > bytes.len() {
-            return None;
-        }
+        let line = self.table.line(number);
+        let place = usize::from(line.place);
         Some(Body {
-            bytes: &bytes[place..end],
+            bytes: &self.table.bytes[place..place + usize::from(line.length)],
             place,
         })
     }
-}
-
-fn opened<'a>(bytes: &'a [u8]) -> Result<Delivery<'a>, DeliveryRefusal>
-    ensures { result_map_both contents (λ e. e) result ≡ opening bytes.now }
-{
-    let Some(count) = listed_count(bytes) else {
-        return Err(DeliveryRefusal::NoTable);
-    };
-    if let Some(entry) = first_bad_entry(bytes, count) {
-        return Err(DeliveryRefusal::BadEntry(entry));
-    }
-    if let Some(entry) = first_sharing_entry(bytes, count) {
-        return Err(DeliveryRefusal::SharedByte(entry));
-    }
-    Ok(Delivery { bytes, count })
 }

@@ -2,7 +2,7 @@
 ghost use Rattle.std.specs.Prelude.{◌≡◌};
 ghost use Rattle.std.specs.Result.{result_map_both};
 ghost use Rattle.delivery.specs.Opened.{body_part};
-ghost use Rattle.delivery.specs.Fields.{field_part, field_from, left_over, past_field};
+ghost use Rattle.delivery.specs.Fields.{field_part, field_from, left_over, past_field, place_in};
 
 use crate::Body;
 
@@ -10,6 +10,13 @@ use crate::Body;
 #[derive(Clone, Copy)]
 pub struct Field<'a> {
     pub bytes: &'a [u8],
+    pub place: usize,
+}
+
+/// A field that passes the end of its body.
+#[derive(Clone, Copy, Debug, PartialEq, Eq)]
+pub struct FieldPastEnd {
+    /// The place of its length byte.
     pub place: usize,
 }
 
@@ -29,36 +36,31 @@ impl<'a> FieldReader<'a> {
         FieldReader { body, at: 0 }
     }
 
-    /// The next field; or, where it passes the body's end, the place of its length byte, and nothing is passed over.
-    pub fn field(&mut self) -> Result<Field<'a>, usize>
-        ensures value { result_map_both field_part (λ p. p) result ≡ field_from (body_part self.old.body) self.old.at }
+    /// The next field. Where it passes the body's end, the reader stays before it.
+    pub fn field(&mut self) -> Result<Field<'a>, FieldPastEnd>
+        ensures value { result_map_both field_part (λ e. e.place) result ≡ field_from (body_part self.old.body) self.old.at }
         ensures after { self.new.at ≡ past_field self.old.body.bytes.now self.old.at }
         ensures body { body_part self.new.body ≡ body_part self.old.body }
     {
-        let bytes = self.body.bytes;
-        let place = self.body.place.saturating_add(self.at);
-        if self.at >= bytes.len() {
-            return Err(place);
-        }
-        let start = self.at + 1;
-        let length = bytes[self.at] as usize;
-        if length > bytes.len() - start {
-            return Err(place);
-        }
-        self.at = start + length;
-        Ok(Field {
-            bytes: &bytes[start..start + length],
-            place,
-        })
+        let place = self.place();
+        let past_end = FieldPastEnd { place };
+        let left = self.body.bytes.get(self.at..).ok_or(past_end)?;
+        let (length, rest) = left.split_first().ok_or(past_end)?;
+        let bytes = rest.get(..usize::from(*length)).ok_or(past_end)?;
+        self.at += 1 + bytes.len();
+        Ok(Field { bytes, place })
     }
+
     /// The place of the first byte that no field has taken yet, if one is left.
     pub fn left_over(&self) -> Option<usize>
         ensures { result ≡ left_over (body_part self.now.body) self.now.at }
     {
-        if self.at < self.body.bytes.len() {
-            Some(self.body.place.saturating_add(self.at))
-        } else {
-            None
-        }
+        (self.at < self.body.bytes.len()).then_some(self.place())
+    }
+
+    fn place(&self) -> usize
+        ensures { result ≡ place_in (body_part self.now.body) self.now.at }
+    {
+        self.body.place.saturating_add(self.at)
     }
 }

@@ -1,10 +1,15 @@
-// The five kinds of body.
-ghost use Rattle.std.specs.Prelude.{◌≡◌};
+// The five kinds of body, and the bytes that stand for them in a table of contents.
+ghost use Rattle.std.specs.Prelude.{◌≡◌, Some};
+ghost use Rattle.std.specs.Option.{ok_or};
+ghost use Rattle.std.specs.Result.{result_ok};
 ghost use Rattle.promise.specs.Exactly.{Exactly};
 ghost use Rattle.delivery.specs.Kinds.{kind_number, kind_numbered};
+ghost use Rattle.delivery.specs.Texts.{kind_name};
+
+use std::fmt;
 
 /// What a body describes.
-#[derive(Clone, Copy)]
+#[derive(Clone, Copy, Debug, PartialEq, Eq)]
 pub enum Kind {
     Road = 1,
     Alias = 2,
@@ -13,25 +18,48 @@ pub enum Kind {
     PointRetirement = 5,
 }
 
-impl Kind {
-    /// The number that stands for the kind in a table of contents.
-    pub fn number(self) -> u8
-        ensures { result ≡ kind_number self }
-    {
-        self as u8
-    }
+/// A number that stands for no kind.
+#[derive(Clone, Copy, Debug, PartialEq, Eq)]
+pub struct UnknownKind(pub u8);
 
-    pub fn from_number(number: u8) -> Option<Kind>
-        ensures value { result ≡ kind_numbered number }
-        ensures exactly { Exactly (λ k. kind_number k ≡ number) result }
+impl From<Kind> for u8 {
+    ghost from_gives = { λ kind number. number ≡ kind_number kind };
+
+    fn from(kind: Kind) -> u8 {
+        kind as u8
+    }
+}
+
+impl TryFrom<u8> for Kind {
+    type Error = UnknownKind;
+
+    ghost try_from_gives = { λ number result. result ≡ ok_or (kind_numbered number) (record { 0 = number }) };
+
+    fn try_from(number: u8) -> Result<Kind, UnknownKind>
+        ensures value { result ≡ ok_or (kind_numbered number) (record { 0 = number }) }
+        ensures exactly { Exactly (λ k. kind_number k ≡ number) (result_ok result) }
     {
         match number {
-            1 => Some(Kind::Road),
-            2 => Some(Kind::Alias),
-            3 => Some(Kind::Point),
-            4 => Some(Kind::RoadRetirement),
-            5 => Some(Kind::PointRetirement),
-            _ => None,
+            1 => Ok(Kind::Road),
+            2 => Ok(Kind::Alias),
+            3 => Ok(Kind::Point),
+            4 => Ok(Kind::RoadRetirement),
+            5 => Ok(Kind::PointRetirement),
+            _ => Err(UnknownKind(number)),
         }
+    }
+}
+
+impl fmt::Display for Kind {
+    ghost output = { λ kind. Some (kind_name kind) };
+
+    fn fmt<W: fmt::Write>(&self, f: &mut fmt::Formatter<W>) -> fmt::Result {
+        f.write_str(match self {
+            Kind::Road => "road",
+            Kind::Alias => "alias",
+            Kind::Point => "point",
+            Kind::RoadRetirement => "road retirement",
+            Kind::PointRetirement => "point retirement",
+        })
     }
 }

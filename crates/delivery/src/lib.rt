@@ -5,12 +5,14 @@
 mod checks;
 mod contents;
 mod deliveries;
+mod entries;
 mod fields;
 mod kinds;
 mod refusals;
 mod taken;
 
-pub use deliveries::{Body, Delivery, Entry};
-pub use fields::{Field, FieldReader};
-pub use kinds::Kind;
+pub use deliveries::{Body, Delivery};
+pub use entries::{Entries, Entry};
+pub use fields::{Field, FieldPastEnd, FieldReader};
+pub use kinds::{Kind, UnknownKind};
 pub use refusals::DeliveryRefusal;

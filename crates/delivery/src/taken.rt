@@ -1,35 +1,35 @@
 // Which bytes of a delivery the bodies so far have taken.
-ghost use Rattle.std.specs.Prelude.{◌≡◌, ℕ, ◌<◌, ◌≤◌, false, length, Decides, slice_index_or};
+ghost use Rattle.std.specs.Prelude.{◌≡◌, ℕ, ◌<◌, ◌≤◌, false, Decides, slice_index_or};
 ghost use Rattle.delivery.specs.Opening.{most_bytes};
 ghost use Rattle.delivery.specs.Taken.{Free, taken_also};
 
 use crate::contents::MOST_BYTES;
 use territory::ByteSpan;
 
-pub(crate) fn nothing_taken() -> [bool; MOST_BYTES]
-    ensures size { length result ≡ most_bytes }
-    ensures free { (b : ℕ) → slice_index_or result b false ≡ false }
-{
-    [false; MOST_BYTES]
+/// A mark for each byte that a delivery may have.
+#[derive(Drop)]
+pub(crate) struct Taken {
+    marks: [bool; MOST_BYTES],
 }
 
-pub(crate) fn is_free(taken: &[bool], span: ByteSpan) -> bool
-    requires { span.end.at ≤ length taken.now }
-    ensures { Decides result (Free taken.now span.first.at span.end.at) }
-{
-    for at in span.first().at..span.end().at {
-        if taken[at] {
-            return false;
+impl Taken {
+    pub(crate) fn none() -> Taken
+        ensures { (b : ℕ) → slice_index_or result.marks b false ≡ false }
+    {
+        Taken {
+            marks: [false; MOST_BYTES],
         }
     }
-    true
-}
 
-pub(crate) fn take_span(taken: &mut [bool], span: ByteSpan)
-    requires { span.end.at ≤ length taken.old }
-    ensures { (b : ℕ) → slice_index_or taken.new b false ≡ taken_also taken.old span.first.at span.end.at b }
-{
-    for at in span.first().at..span.end().at {
-        taken[at] = true;
+    /// Takes the bytes of a span, and tells whether all of them were free.
+    pub(crate) fn take(&mut self, span: ByteSpan) -> bool
+        requires { span.end.at ≤ most_bytes }
+        ensures free { Decides result (Free self.old.marks span.first.at span.end.at) }
+        ensures taken { (b : ℕ) → slice_index_or self.new.marks b false ≡ taken_also self.old.marks span.first.at span.end.at b }
+    {
+        let marks = &mut self.marks[span.first().at..span.end().at];
+        let free = !marks.contains(&true);
+        marks.fill(true);
+        free
     }
 }

@@ -1,7 +1,7 @@
 // Looks at deliveries without a register: prints what each one lists, or why it is refused.
 #![tactic(auto)]
 
-use anyhow::anyhow;
+use anyhow::ensure;
 use inspection::inspect;
 use std::io::Read;
 use std::{env, fs, io};
@@ -45,30 +45,23 @@ fn show_file(rt: &HostRuntime, path: &str) -> anyhow::Result<bool> {
 }
 
 // With several files, each one's text stands below its name.
-fn show_files(rt: &HostRuntime, paths: &Vec<String>) -> anyhow::Result<bool> {
+fn show_files(rt: &HostRuntime, paths: &[String]) -> anyhow::Result<bool> {
     let mut all_read = true;
-    for path in paths.iter() {
-        let path = path.as_str();
+    for path in paths {
         if paths.len() > 1 {
             println!(rt; "{path}:")?;
         }
-        all_read = show_file(rt, path)? && all_read;
+        all_read &= show_file(rt, path.as_str())?;
     }
     Ok(all_read)
 }
 
 fn main(rt: HostRuntime) -> anyhow::Result<()> {
     let paths: Vec<String> = env::args(&rt)?.skip(1).collect(rt.alloc())?;
-    if paths.is_empty() {
-        return show(&rt, read_input(&rt)?.as_slice());
+    match paths.as_slice() {
+        [] => show(&rt, read_input(&rt)?.as_slice())?,
+        [first, ..] if first.as_str() == "--help" => rt.print(HELP)?,
+        paths => ensure!(show_files(&rt, paths)?, "a file could not be read"),
     }
-    if paths[0].as_str() == "--help" {
-        rt.print(HELP)?;
-        return Ok(());
-    }
-    if show_files(&rt, &paths)? {
-        Ok(())
-    } else {
-        Err(anyhow!("a file could not be read"))
-    }
+    Ok(())
 }

@@ -1,12 +1,12 @@
-use Rattle.delivery.proofs.Refused.{answered_rightly, answered_whole, answered_apart}
+use Rattle.std.proofs.Common.{rules}
+use Rattle.delivery.proofs.Refused.{told_rightly}
 use Rattle.delivery.proofs.deliveries.Delivery.open.Goals as goal
 
-pub returns : goal.returns
-returns c =
-    let value = c.opened.ensures in
-    record {
-      value = value;
-      rightly = answered_rightly _ _ value;
-      given = answered_whole c.args.bytes.now _ value;
-      apart = answered_apart _ _ value;
-    }
+pub returns-in_err-check_entries-clause-rightly : goal.returns-in_err-check_entries-clause-rightly
+returns-in_err-check_entries-clause-rightly c = told_rightly c.args.bytes.now _ (search rules)
+
+pub returns-in_err-check_sharing-clause-rightly : goal.returns-in_err-check_sharing-clause-rightly
+returns-in_err-check_sharing-clause-rightly c = told_rightly c.args.bytes.now _ (search rules)
+
+pub returns-clause-rightly : goal.returns-clause-rightly
+returns-clause-rightly c = told_rightly c.args.bytes.now _ (search rules)
