@@ -1,25 +1,24 @@
 -- A body that does not break is its fields put together, and one that breaks does so where it is told. Assumes nothing.
-use Rattle.std.proofs.Common.{◌≡◌, ℕ, zero, suc, ◌+◌, ◌-◌, ◌<◌, ◌≤◌, Bool, true, false, cond, ltb, leb, ◌⊎◌, List, [], ◌∷◌, ◌++◌, map, length, get_or, drop, Some, None, Option, sym, refl, ap, ◌∙◌, subst, inl, inr, ⊎_elim, append_assoc, arith, length-append, length-drop, take-append-drop, length-take, get_or-drop, drop-drop, drop_at}
+use Rattle.std.proofs.Common.{◌≡◌, ℕ, zero, suc, ◌+◌, ◌-◌, ◌<◌, ◌≤◌, Bool, true, false, cond, ltb, ◌⊎◌, List, [], ◌∷◌, ◌++◌, map, length, get_or, drop, Some, None, Option, sym, refl, ap, ◌∙◌, subst, inl, inr, ⊎_elim, append_assoc, arith, length-append, length-drop, take-append-drop, drop-drop, drop_at}
+use Rattle.std.proofs.lemmas.Grind.{common_steps}
+use Rattle.std.proofs.lemmas.Bool.Decides.{nat_tests}
 use Rattle.std.proofs.lemmas.List.{drop_all, drop_more}
-use Rattle.std.proofs.lemmas.Bool.{true≢false, and_parts, and_cases, and_from, and_left, and_right, ltb-true, ltb-false, leb-true, leb-false, lt-ltb, le-ltb, le-leb, lt-leb, cases_lt, cases_Bool, cond-true, cond-false}
+use Rattle.std.proofs.lemmas.Bool.{ltb-true, ltb-false, cases_Bool, cond-true, cond-false}
 use Rattle.std.specs.List.{range_with_len, flat_map}
 use Rattle.promise.specs.Exactly.{Exactly}
 use Rattle.delivery.specs.Fields.{field_bytes, field_end, field_fits, place_in}
 use Rattle.delivery.specs.Opened.{Part}
 use Rattle.record.specs.Bodies.{field_start, field_text, broken_at}
 use Rattle.record.specs.Laid.{laid, Laid, first_texts, PassesEnd, Breaks, BreaksAt}
+use Rattle.record.proofs.Positions.{none_left}
 use Rattle.record.proofs.Walks.{start_first, start_next, past_fitting, broken_step, broken_none}
 
 module _ (body : List ℕ) where
   fits_parts : (at : ℕ) → field_fits body at ≡ true → (at < length body) × (field_end body at ≤ length body)
-  fits_parts at h = let p = and_parts _ _ h in (ltb-true _ _ p.0, leb-true _ _ p.1)
+  fits_parts at h = grind (arith, nat_tests)
 
   length_field : (at : ℕ) → field_fits body at ≡ true → length (field_bytes body at) ≡ get_or body at 0
-  length_field at h =
-      let p = fits_parts at h in
-      let whole = length-drop (at + 1) body in
-      let part = length-take (get_or body at 0) (drop (at + 1) body) in
-      omega arith
+  length_field at h = grind (arith, nat_tests, common_steps)
 
   -- a field that fits, and what follows it
   split : (at : ℕ) → field_fits body at ≡ true → drop at body ≡ laid (field_bytes body at) ++ drop (field_end body at) body
@@ -30,12 +29,10 @@ module _ (body : List ℕ) where
       ∙ ap (λ n. n ∷ (field_bytes body at ++ drop (field_end body at) body)) (sym (length_field at h))
 
   first_byte : (at byte : ℕ) (rest : List ℕ) → drop at body ≡ byte ∷ rest → get_or body at 0 ≡ byte
-  first_byte at byte rest e =
-      let z : at ≡ at + 0 = omega arith in
-      ap (λ i. get_or body i 0) z ∙ sym (get_or-drop at body 0 0) ∙ ap (λ l. get_or l 0 0) e
+  first_byte at byte rest e = grind (arith, common_steps)
 
   still : (at : ℕ) (rest : List ℕ) → drop at body ≡ rest → length body - at ≡ length rest
-  still at rest e = sym (length-drop at body) ∙ ap length e
+  still at rest e = grind (arith, common_steps)
 
   pub record Next (at : ℕ) (field rest : List ℕ) : Type 0 where
     pub fits : field_fits body at ≡ true
@@ -50,43 +47,22 @@ module _ (body : List ℕ) where
       let both = length-append field rest in
       let past : field_end body at ≡ at + (1 + length field) = omega arith in
       record {
-        fits = and_from _ _ (lt-ltb at (length body) (omega arith)) (le-leb (field_end body at) (length body) (omega arith));
+        fits = grind (arith, nat_tests);
         end = past;
         after = ap (λ n. drop n body) past ∙ sym (drop-drop (1 + length field) at body) ∙ ap (drop (1 + length field)) e ∙ drop_at (laid field) rest (1 + length field) (omega arith);
       }
 
   no_field : (at : ℕ) → field_fits body at ≡ false → PassesEnd (drop at body)
-  no_field at h =
-      ⊎_elim
-      (λ inside.
-      let long : length body < field_end body at = ⊎_elim (λ a. absurd (omega (arith, ltb-false at (length body) a))) (λ b. leb-false (field_end body at) (length body) b) (and_cases (ltb at (length body)) (leb (field_end body at) (length body)) h) in
-      let rest = length-drop (at + 1) body in
-      inr (get_or body at 0, drop (at + 1) body, drop_more body at 0 inside, omega arith))
-      (λ past. inl (drop_all at body past))
-      (cases_lt at (length body))
+  no_field at h = grind (arith, nat_tests, common_steps, drop_all, drop_more)
 
   passes : (at : ℕ) (rest : List ℕ) → drop at body ≡ rest → PassesEnd rest → field_fits body at ≡ false
-  passes at rest e (inl none) = let l = still at _ (e ∙ none) in and_left _ _ (le-ltb at (length body) (omega arith))
-  passes at rest e (inr w) =
-      let l = still at _ (e ∙ w.2) in
-      let byte = first_byte at _ _ (e ∙ w.2) in
-      let short = w.3 in
-      and_right _ _ (lt-leb (field_end body at) (length body) (omega arith))
+  passes at rest e ends = grind (arith, nat_tests, common_steps, still, first_byte)
 
 when_none : {A : Type 0} (b : Bool) (x : Option A) (y : A) → cond b x (Some y) ≡ None → (b ≡ true) × (x ≡ None)
-when_none true x y h = (refl, h)
-when_none false x y h = absurd (true≢false (let z : true ≡ false = cc in z))
-
-none_left : {A : Type 0} (b : Bool) (y : A) → cond b (Some y) None ≡ None → b ≡ false
-none_left true y h = absurd (true≢false (let z : true ≡ false = cc in z))
-none_left false y h = refl
+when_none b x y h = grind arith
 
 some_left : {A : Type 0} (b : Bool) (y z : A) → cond b (Some y) None ≡ Some z → (b ≡ true) × (z ≡ y)
-some_left true y z h = (refl, cc)
-some_left false y z h = absurd (true≢false (let z : true ≡ false = cc in z))
-
-some_same : {A : Type 0} {x y : A} → Some x ≡ Some y → x ≡ y
-some_same e = cc
+some_left b y z h = grind arith
 
 module _ (body : Part) where
   texts_from : (i k : ℕ) → broken_at body (field_start body.bytes i) k ≡ None → drop (field_start body.bytes i) body.bytes ≡ flat_map laid (map (field_text body.bytes) (range_with_len i k))
@@ -129,7 +105,7 @@ module _ (body : Part) where
           rest = b.rest;
           parts = split body.bytes at fits ∙ ap (λ after. laid field ++ after) b.parts ∙ sym (append_assoc (laid field) (flat_map laid b.fields) b.rest);
           front = let f = b.front in omega arith;
-          breaks = ⊎_elim (λ few. inl (omega (arith, few.0), few.1)) (λ all'. inr (ap suc all'.0, all'.1)) b.breaks;
+          breaks = let why = b.breaks in grind arith;
         },
         w.2 ∙ ap (place_in body) (sym off),
       )
@@ -144,27 +120,24 @@ module _ (body : Part) where
       let stepped = sym (broken_step body at k) ∙ e in
       ⊎_elim
       (λ fits. later at k place fits (tells (field_end body.bytes at) k place (sym (cond-true _ _ _ fits) ∙ stepped)))
-      (λ none. subst (Left at (suc k)) (let h = sym (cond-false _ _ _ none) ∙ stepped in some_same h) (here at (suc k) (inl (omega arith, no_field body.bytes at none))))
+      (λ none. subst (Left at (suc k)) (let h = sym (cond-false _ _ _ none) ∙ stepped in cc) (here at (suc k) (inl (omega arith, no_field body.bytes at none))))
       (cases_Bool (field_fits body.bytes at))
 
   told : (at count : ℕ) (fields : List (List ℕ)) (rest : List ℕ) → drop at body.bytes ≡ flat_map laid fields ++ rest → ((length fields < count) × PassesEnd rest) ⊎ ((length fields ≡ count) × (0 < length rest)) → broken_at body at count ≡ Some (place_in body (at + length (flat_map laid fields)))
   told at zero [] rest e why =
-      let z : at ≡ at + 0 = omega arith in
       let l = still body.bytes at rest e in
-      let some : 0 < length rest = ⊎_elim (λ few. absurd (omega (arith, few.0))) (λ w. w.1) why in
-      broken_none body at ∙ cond-true _ _ _ (lt-ltb at (length body.bytes) (omega arith)) ∙ ap (λ p. Some (place_in body p)) z
-  told at (suc k) [] rest e why =
+      let over : ltb at (length body.bytes) ≡ true = grind (arith, nat_tests) in
       let z : at ≡ at + 0 = omega arith in
-      let ends : PassesEnd rest = ⊎_elim (λ few. few.1) (λ w. absurd (omega (arith, w.0))) why in
-      broken_step body at k ∙ cond-false _ _ _ (passes body.bytes at rest e ends) ∙ ap (λ p. Some (place_in body p)) z
-  told at zero (field ∷ fields) rest e why = absurd (⊎_elim (λ few. omega (arith, few.0)) (λ w. omega (arith, w.0)) why)
+      broken_none body at ∙ cond-true _ _ _ over ∙ ap (λ p. Some (place_in body p)) z
+  told at (suc k) [] rest e why = grind (arith, nat_tests, passes, broken_step)
+  told at zero (field ∷ fields) rest e why = grind arith
   told at (suc k) (field ∷ fields) rest e why =
       let n = next body.bytes at field (flat_map laid fields ++ rest) (e ∙ append_assoc (laid field) (flat_map laid fields) rest) in
       let all = length-append (laid field) (flat_map laid fields) in
       let off : field_end body.bytes at + length (flat_map laid fields) ≡ at + length (flat_map laid (field ∷ fields)) = omega (arith, n.end) in
       broken_step body at k
       ∙ cond-true _ _ _ n.fits
-      ∙ told (field_end body.bytes at) k fields rest n.after (⊎_elim (λ few. inl (omega (arith, few.0), few.1)) (λ w. inr (omega (arith, w.0), w.1)) why)
+      ∙ told (field_end body.bytes at) k fields rest n.after (grind arith)
       ∙ ap (λ p. Some (place_in body p)) off
 
   pub breaks_exactly : (count : ℕ) → Exactly (BreaksAt count body) (broken_at body 0 count)

@@ -1,10 +1,11 @@
-pub mod Faults
-pub mod Formed
 pub mod Judged
+pub mod Labels
 pub mod Laying
 pub mod LeftOver
+pub mod NameEquality
 pub mod NamedReadings
 pub mod NamedTexts
 pub mod Passed
+pub mod Positions
 pub mod Refused
 pub mod Walks

@@ -3,9 +3,8 @@ use Rattle.std.proofs.Common.{◌≡◌, ℕ, List, sym, ap, arith}
 use Rattle.territory.specs.declared.numberings.Numbering.{Ghosts}
 use Rattle.delivery.specs.declared.kinds.Kind.TheVariants.{Road, Point}
 use Rattle.record.specs.Bodies.{field_text}
-use Rattle.record.specs.Judging.{reading_from}
 use Rattle.record.specs.Layouts.{numbering_field, place_field}
-use Rattle.record.specs.Parts.{place_of, reading_of}
+use Rattle.record.specs.Parts.{place_of, reading_from, reading_of}
 use Rattle.record.specs.declared.field_names.Side.{Side}
 use Rattle.record.specs.declared.field_names.Side.TheVariants.{Left, Right}
 use Rattle.record.proofs.NamedTexts.{names_tell}

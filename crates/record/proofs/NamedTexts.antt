@@ -1,14 +1,10 @@
 -- Each name tells the text at its own place in the layout. Assumes nothing.
-use Rattle.std.proofs.Common.{◌≡◌, ℕ, zero, suc, Bool, true, false, ◌&&◌, eqb, List, Some, None, Decides, Option, refl, ap}
-use Rattle.std.proofs.lemmas.Bool.{eq-eqb, eqb-true, false≢true}
-use Rattle.std.proofs.lemmas.Bool.Decides.{Decides-below_and}
-use Rattle.promise.specs.First.{first_from}
-use Rattle.text.specs.Bytes.{same_bytes}
+use Rattle.std.proofs.Common.{◌≡◌, ℕ, zero, suc, Bool, true, false, ◌&&◌, eqb, List, Some, None, Decides, Option, refl, ap, arith}
+use Rattle.std.proofs.lemmas.Bool.Decides.{Decides-below_and, nat_tests}
 use Rattle.delivery.specs.declared.kinds.Kind.{Kind}
 use Rattle.delivery.specs.declared.kinds.Kind.TheVariants.{Road, Alias, Point, RoadRetirement, PointRetirement}
-use Rattle.record.specs.Layouts.{layout}
-use Rattle.record.specs.Checking.{field_count}
-use Rattle.record.specs.Named.{index_in, name_at, text_given, text_of, NamesTell}
+use Rattle.record.specs.Layouts.{field_count, layout}
+use Rattle.record.specs.Named.{index_in, name_at, text_given, NamesTell}
 use Rattle.record.specs.Names.{same_name}
 
 is_at : Option ℕ → ℕ → Bool
@@ -17,8 +13,7 @@ is_at (Some found) index = eqb found index
 
 is_at_decides : (found : Option ℕ) (index : ℕ) → Decides (is_at found index) (found ≡ Some index)
 unfolding is_at
-is_at_decides None index = (λ h. absurd (false≢true h), λ e. let z : false ≡ true = cc in z)
-is_at_decides (Some found) index = (λ h. ap Some (eqb-true found index h), λ e. eq-eqb found index (let z : found ≡ index = cc in z))
+is_at_decides found index = grind (arith, nat_tests)
 
 -- the first numbers of a layout are each where their names are found
 all_found : Kind → ℕ → Bool
@@ -26,7 +21,7 @@ all_found kind zero = true
 all_found kind (suc n) = is_at (index_in (layout kind) (name_at kind n)) n && all_found kind n
 
 none_twice : (kind : Kind) → all_found kind (field_count kind) ≡ true
-unfolding all_found is_at index_in same_name first_from same_bytes
+unfolding all_found is_at index_in same_name
 none_twice Road = refl
 none_twice Alias = refl
 none_twice Point = refl
@@ -34,7 +29,7 @@ none_twice RoadRetirement = refl
 none_twice PointRetirement = refl
 
 pub names_tell : (kind : Kind) (body : List ℕ) → NamesTell kind body
-unfolding all_found text_of
+unfolding all_found
 names_tell kind body index below =
     let found = Decides-below_and (λ n. is_at (index_in (layout kind) (name_at kind n)) n) (λ n. index_in (layout kind) (name_at kind n) ≡ Some n) (all_found kind) (λ n. is_at_decides _ n) refl (λ _. refl) (field_count kind) in
     ap (text_given body) (found.0 (none_twice kind) index below)

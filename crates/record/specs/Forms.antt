@@ -1,6 +1,5 @@
 -- Why a body is refused, by the forms of its texts and not by the readers' tests. Assumes nothing.
-use Rattle.std.specs.Prelude.{◌≡◌, ℕ, ◌+◌, ◌-◌, ◌<◌, true, false, ◌⊎◌, List, [], None, Err, Option}
-use Rattle.promise.specs.Reasons.{FirstThatApplies, ListedBefore}
+use Rattle.std.specs.Prelude.{◌≡◌, ℕ, true, false, ◌⊎◌, List, [], None, Err, Option}
 use Rattle.territory.specs.declared.numberings.Numbering.{Ghosts}
 use Rattle.text.specs.FieldText.{FieldText}
 use Rattle.text.specs.Nguids.{NguidParts, NguidText}
@@ -9,20 +8,15 @@ use Rattle.instant.specs.DateTime.{Tells}
 use Rattle.instant.specs.Instants.{instant_before}
 use Rattle.instant.specs.Limits.{earliest, latest, TellsOr}
 use Rattle.instant.specs.declared.date_time.Instant.{Instant}
-use Rattle.delivery.specs.Fields.{place_in}
 use Rattle.delivery.specs.Opened.{Part}
 use Rattle.delivery.specs.declared.kinds.Kind.{Kind}
-use Rattle.record.specs.Bodies.{field_start, field_text}
-use Rattle.record.specs.Checking.{field_count}
-use Rattle.record.specs.Judging.{ordinal, reading_from}
-use Rattle.record.specs.Laid.{BreaksAt}
+use Rattle.record.specs.Judging.{side_reading}
 use Rattle.record.specs.Layouts.{is_required}
-use Rattle.record.specs.Named.{name_at, text_of}
-use Rattle.record.specs.Refusals.{refusal_number, told_field}
+use Rattle.record.specs.Named.{text_of}
+use Rattle.record.specs.Rules.{Refused}
 use Rattle.record.specs.declared.field_names.FieldName.{FieldName}
 use Rattle.record.specs.declared.field_names.FieldName.TheVariants.{Identifier, RoadIdentifier, Text, SideText, Numbering, Place, DateUpdate, Effective, Expire, Retirement}
 use Rattle.record.specs.declared.refusals.BodyRefusal.{BodyRefusal}
-use Rattle.record.specs.declared.refusals.BodyRefusal.TheVariants.{Broken, Field, Lifetime}
 
 -- the form of a field's text; numbering texts and places follow their numbering alone
 abbrev pub HasForm : FieldName → List ℕ → Type 0
@@ -49,33 +43,15 @@ pub record NoLifetime (kind : Kind) (body : List ℕ) : Type 0 where
   pub ends : TellsOr latest (text_of kind body Expire) expire
   pub late : instant_before effective expire ≡ false
 
-module _ {N P : Type 0} (m : Ghosts N P) (kind : Kind) (body : Part) where
-  -- the numbering's reading of the texts, of which this is one, tells it; or the text says no place
-  abbrev pub NumberingAtFault : FieldName → ℕ → Type 0
-  NumberingAtFault (Identifier which) index = ⊥
-  NumberingAtFault RoadIdentifier index = ⊥
-  NumberingAtFault (Text field) index = ⊥
-  NumberingAtFault (SideText side field) index = ⊥
-  NumberingAtFault (Numbering side which) index = reading_from m body.bytes (index - ordinal which) ≡ Err which
-  NumberingAtFault Place index = m.place (field_text body.bytes index) ≡ None
-  NumberingAtFault DateUpdate index = ⊥
-  NumberingAtFault Effective index = ⊥
-  NumberingAtFault Expire index = ⊥
-  NumberingAtFault Retirement index = ⊥
+module _ {N P : Type 0} (m : Ghosts N P) (kind : Kind) (body : List ℕ) where
+  -- the reading of the side's texts tells this one, or the text says no place
+  abbrev pub NumberingAtFault : FieldName → Type 0
+  NumberingAtFault (Numbering side which) = side_reading m kind body side ≡ Err which
+  NumberingAtFault Place = m.place (text_of kind body Place) ≡ None
+  NumberingAtFault name = ⊥
 
-  -- the field of a number, from 1, whose length byte stands at the place, is at fault
-  pub record OutOfForm (number place : ℕ) : Type 0 where
-    pub index : ℕ
-    pub below : index < field_count kind
-    pub counted : number ≡ index + 1
-    pub stands : place ≡ place_in body (field_start body.bytes index)
-    pub fault : TextAtFault (name_at kind index) (field_text body.bytes index) ⊎ NumberingAtFault (name_at kind index) index
+  abbrev pub AtFault : FieldName → Type 0
+  AtFault name = TextAtFault name (text_of kind body name) ⊎ NumberingAtFault name
 
-  abbrev pub AppliesByForm : BodyRefusal → Type 0
-  AppliesByForm (Broken place) = BreaksAt (field_count kind) body place
-  AppliesByForm (Field number place) = OutOfForm number place
-  AppliesByForm Lifetime = NoLifetime kind body.bytes
-
-  -- the reason given is the first of the list that applies, with the first field, and none is given exactly when none applies
-  abbrev pub RefusedByForm : Option BodyRefusal → Type 0
-  RefusedByForm refusal = FirstThatApplies AppliesByForm (ListedBefore refusal_number told_field) refusal
+unfoldable pub RefusedByForm : {N P : Type 0} → Ghosts N P → Kind → Part → Option BodyRefusal → Type 0
+RefusedByForm m kind body = Refused (AtFault m kind body.bytes) (NoLifetime kind body.bytes) kind body

@@ -1,10 +1,10 @@
 -- The fields of each kind of body, in their order, and which of them a body has to have. Assumes nothing.
-use Rattle.std.specs.Prelude.{◌≡◌, ℕ, Bool, true, false, List, [], ◌∷◌, ◌++◌, slice_index_or}
+use Rattle.std.specs.Prelude.{◌≡◌, ℕ, Bool, true, false, List, [], ◌∷◌, ◌++◌, length, slice_index_or}
 use Rattle.delivery.specs.declared.kinds.Kind.{Kind}
 use Rattle.delivery.specs.declared.kinds.Kind.TheVariants.{Road, Alias, Point, RoadRetirement, PointRetirement}
 use Rattle.territory.specs.declared.numberings.NumberingText.TheVariants.{First, Second, Third}
 use Rattle.text.specs.declared.field_text.TextField.{TextField}
-use Rattle.text.specs.declared.field_text.TextField.TheVariants.{PreModifier, PreDirectional, PreType, PreSeparator, StreetName, PostType, PostDirectional, PostModifier, FullName, County, Municipality, NumberPrefix, NumberSuffix, Unit}
+use Rattle.text.specs.declared.field_text.TextField.TheVariants.{PreModifier, PreDirectional, PreType, PreSeparator, StreetName, PostType, PostDirectional, PostModifier, County, Municipality, NumberPrefix, NumberSuffix, Unit}
 use Rattle.text.specs.declared.nguid.Layer.TheVariants as layer
 use Rattle.record.specs.declared.field_names.FieldName.{FieldName}
 use Rattle.record.specs.declared.field_names.FieldName.TheVariants.{Identifier, RoadIdentifier, Text, SideText, Numbering, Place, DateUpdate, Effective, Expire, Retirement}
@@ -30,34 +30,23 @@ layout Point =
 layout RoadRetirement = Identifier layer.Road ∷ Retirement ∷ []
 layout PointRetirement = Identifier layer.AddressPoint ∷ Retirement ∷ []
 
+abbrev pub field_count : Kind → ℕ
+field_count kind = length (layout kind)
+
 -- a street is known by its county and its name
 abbrev pub is_required_text : TextField → Bool
-is_required_text PreModifier = false
-is_required_text PreDirectional = false
-is_required_text PreType = false
-is_required_text PreSeparator = false
 is_required_text StreetName = true
-is_required_text PostType = false
-is_required_text PostDirectional = false
-is_required_text PostModifier = false
-is_required_text FullName = false
 is_required_text County = true
-is_required_text Municipality = false
-is_required_text NumberPrefix = false
-is_required_text NumberSuffix = false
-is_required_text Unit = false
+is_required_text field = false
 
+-- numbering texts follow their numbering alone
 abbrev pub is_required : FieldName → Bool
-is_required (Identifier layer) = true
-is_required RoadIdentifier = true
 is_required (Text field) = is_required_text field
 is_required (SideText s field) = is_required_text field
 is_required (Numbering s text) = false
-is_required Place = true
-is_required DateUpdate = true
 is_required Effective = false
 is_required Expire = false
-is_required Retirement = true
+is_required name = true
 
 -- where, from 0, the three numbering texts of a road's side begin, and where a point's place stands
 abbrev pub numbering_field : Side → ℕ

@@ -1,32 +1,28 @@
 -- The text of a field by its name. Assumes nothing.
-use Rattle.std.specs.Prelude.{◌≡◌, ℕ, ◌<◌, List, [], length, Some, None, Option, slice_index_or}
-use Rattle.promise.specs.First.{first_below}
+use Rattle.std.specs.Prelude.{◌≡◌, ℕ, ◌<◌, List, [], Some, None, Option, slice_index_or}
+use Rattle.std.specs.List.{position}
 use Rattle.text.specs.declared.nguid.Layer.TheVariants as layer
 use Rattle.delivery.specs.declared.kinds.Kind.{Kind}
 use Rattle.record.specs.Bodies.{field_text}
-use Rattle.record.specs.Checking.{field_count}
-use Rattle.record.specs.Layouts.{layout}
+use Rattle.record.specs.Layouts.{field_count, layout}
 use Rattle.record.specs.Names.{same_name}
 use Rattle.record.specs.declared.field_names.FieldName.{FieldName}
 use Rattle.record.specs.declared.field_names.FieldName.TheVariants.{Identifier}
 
--- a name of a list, by its number below the list's length, from 0
-abbrev pub name_in : List FieldName → ℕ → FieldName
-name_in names index = slice_index_or names index (Identifier layer.Road)
-
+-- the name of a field, by its number below the count of fields, from 0
 abbrev pub name_at : Kind → ℕ → FieldName
-name_at kind index = name_in (layout kind) index
+name_at kind index = slice_index_or (layout kind) index (Identifier layer.Road)
 
 -- where the name stands in a list, if it does
 unfoldable pub index_in : List FieldName → FieldName → Option ℕ
-index_in names name = first_below (λ index. same_name name (name_in names index)) (length names)
+index_in names name = position (same_name name) names
 
 abbrev pub text_given : List ℕ → Option ℕ → List ℕ
 text_given body None = []
 text_given body (Some index) = field_text body index
 
 -- the text of the field that has the name, and none where the kind has no such field
-unfoldable pub text_of : Kind → List ℕ → FieldName → List ℕ
+abbrev pub text_of : Kind → List ℕ → FieldName → List ℕ
 text_of kind body name = text_given body (index_in (layout kind) name)
 
 -- each name tells the text at its own place in the layout

@@ -2,9 +2,10 @@
 use Rattle.std.specs.Prelude.{ℕ, Bool, ◌&&◌, List, [], codes}
 use Rattle.territory.specs.declared.numberings.NumberingText.{NumberingText}
 use Rattle.territory.specs.declared.numberings.NumberingText.TheVariants.{First, Second, Third}
-use Rattle.text.specs.Bytes.{same_bytes}
+use Rattle.std.specs.Str.{bytes_eq}
 use Rattle.text.specs.declared.field_text.TextField.{TextField}
 use Rattle.text.specs.declared.field_text.TextField.TheVariants.{PreModifier, PreDirectional, PreType, PreSeparator, StreetName, PostType, PostDirectional, PostModifier, FullName, County, Municipality, NumberPrefix, NumberSuffix, Unit}
+use Rattle.text.specs.declared.nguid.Layer.TheVariants as layer
 use Rattle.record.specs.declared.field_names.FieldName.{FieldName}
 use Rattle.record.specs.declared.field_names.FieldName.TheVariants.{Identifier, RoadIdentifier, Text, SideText, Numbering, Place, DateUpdate, Effective, Expire, Retirement}
 use Rattle.record.specs.declared.field_names.Side.{Side}
@@ -49,16 +50,14 @@ side_label Right = codes "right"
 
 -- of a field that describes no side, nothing
 abbrev pub side_of : FieldName → List ℕ
-side_of (Identifier layer) = []
-side_of RoadIdentifier = []
-side_of (Text field) = []
 side_of (SideText side field) = side_label side
 side_of (Numbering side text) = side_label side
-side_of Place = []
-side_of DateUpdate = []
-side_of Effective = []
-side_of Expire = []
-side_of Retirement = []
+side_of name = []
 
 unfoldable pub same_name : FieldName → FieldName → Bool
-same_name a b = same_bytes (label a) (label b) && same_bytes (side_of a) (side_of b)
+same_name a b = bytes_eq (label a) (label b) && bytes_eq (side_of a) (side_of b)
+
+-- the name, whatever an identifier's layer
+abbrev pub whatever_layer : FieldName → FieldName
+whatever_layer (Identifier which) = Identifier layer.Road
+whatever_layer name = name

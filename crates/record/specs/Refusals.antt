@@ -9,6 +9,5 @@ refusal_number (Field number place) = 5
 refusal_number Lifetime = 6
 
 abbrev pub told_field : BodyRefusal → ℕ
-told_field (Broken place) = 0
 told_field (Field number place) = number
-told_field Lifetime = 0
+told_field refusal = 0

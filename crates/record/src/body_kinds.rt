@@ -7,10 +7,9 @@ use delivery::Kind;
 
 /// A type that stands for a kind of body.
 pub trait BodyKind {
-    ghost kind: { KindOf };
+    ghost KIND: { KindOf };
 
-    fn kind() -> Kind
-        ensures { result ≡ kind };
+    const KIND: Kind;
 }
 
 #[derive(Clone, Copy)]
@@ -29,41 +28,31 @@ pub struct RoadRetirementBody;
 pub struct PointRetirementBody;
 
 impl BodyKind for RoadBody {
-    ghost kind = { Road };
+    ghost KIND = { Road };
 
-    fn kind() -> Kind {
-        Kind::Road
-    }
+    const KIND: Kind = Kind::Road;
 }
 
 impl BodyKind for AliasBody {
-    ghost kind = { Alias };
+    ghost KIND = { Alias };
 
-    fn kind() -> Kind {
-        Kind::Alias
-    }
+    const KIND: Kind = Kind::Alias;
 }
 
 impl BodyKind for PointBody {
-    ghost kind = { Point };
+    ghost KIND = { Point };
 
-    fn kind() -> Kind {
-        Kind::Point
-    }
+    const KIND: Kind = Kind::Point;
 }
 
 impl BodyKind for RoadRetirementBody {
-    ghost kind = { RoadRetirement };
+    ghost KIND = { RoadRetirement };
 
-    fn kind() -> Kind {
-        Kind::RoadRetirement
-    }
+    const KIND: Kind = Kind::RoadRetirement;
 }
 
 impl BodyKind for PointRetirementBody {
-    ghost kind = { PointRetirement };
+    ghost KIND = { PointRetirement };
 
-    fn kind() -> Kind {
-        Kind::PointRetirement
-    }
+    const KIND: Kind = Kind::PointRetirement;
 }

@@ -1,89 +1,74 @@
 // The checks of a body: that it is whole, that no field is at fault, that it has a lifetime.
-ghost use Rattle.std.specs.Prelude.{◌≡◌, ◌^◌, ◌<◌, length, None};
+ghost use Rattle.std.specs.Prelude.{◌≡◌, ◌<◌, None, Some, IfSome, cond};
+ghost use Rattle.std.specs.List.{position};
+ghost use Rattle.std.specs.Result.{result_err};
 ghost use Rattle.delivery.specs.Opened.{body_part};
-ghost use Rattle.record.specs.Checking.{has_lifetime, no_time, no_lifetime, fault_of, refusal_of};
+ghost use Rattle.record.specs.Checking.{no_lifetime, fault_of, refusal_of};
 ghost use Rattle.record.specs.Forms.{RefusedByForm};
+ghost use Rattle.record.specs.Judging.{faulty};
 ghost use Rattle.record.specs.Laid.{Laid};
+ghost use Rattle.record.specs.Layouts.{field_count, layout};
 ghost use Rattle.record.specs.Rules.{RefusedRightly, fields_of};
-ghost use Rattle.instant.specs.Limits.{earliest, latest, instant_or};
+ghost use Rattle.record.specs.declared.refusals.BodyRefusal.TheVariants.{Lifetime};
 
-use crate::judging::is_faulty;
+use crate::described::Described;
 use crate::layouts::layout;
-use crate::walking::{broken_at, place_at, text_at};
+use crate::walking::{check_whole, place_at};
 use crate::{BodyRefusal, FieldName};
 use delivery::{Body, Kind};
 use instant::Instant;
 use territory::{Bound, Numbering};
 
 /// The first reason for which the body is refused, if any.
+#[tactic(auto, using(crate::proofs::Refused::refused_rightly, crate::proofs::Refused::refused_by_form, crate::proofs::Passed::accepted_whole))]
 pub fn refusal<N: Numbering>(kind: Kind, body: Body) -> Option<BodyRefusal>
     ensures value { result ≡ refusal_of N.Numbering.own kind (body_part body.entry) }
     ensures rightly { RefusedRightly N.Numbering.own kind (body_part body.entry) result }
     ensures formed { RefusedByForm N.Numbering.own kind (body_part body.entry) result }
     ensures whole { result ≡ None → Laid body.entry.bytes.now (fields_of kind body.entry.bytes.now) }
 {
-    first_refusal::<N>(kind, body)
+    Described { kind, body }.check::<N>().err()
 }
 
-fn first_refusal<N: Numbering>(kind: Kind, body: Body) -> Option<BodyRefusal>
-    ensures { result ≡ refusal_of N.Numbering.own kind (body_part body.entry) }
-{
-    let names = layout(kind);
-    if let Some(place) = broken_at(body, names.len()) {
-        return Some(BodyRefusal::Broken(place));
+impl<'a> Described<'a> {
+    #[tactic(auto, unfolding(crate::specs::Checking::refusal_of))]
+    pub(crate) fn check<N: Numbering>(self) -> Result<(), BodyRefusal>
+        ensures { result_err result ≡ refusal_of N.Numbering.own self.entry.kind (body_part self.entry.body) }
+    {
+        check_whole(self.body, layout(self.kind).len())?;
+        self.check_fields::<N>()?;
+        self.check_lifetime()
     }
-    if let Some(fault) = fault::<N>(names, body) {
-        return Some(fault);
-    }
-    if has_no_lifetime(kind, body) {
-        return Some(BodyRefusal::Lifetime);
-    }
-    None
-}
 
-// The first field at fault.
-fn fault<N: Numbering>(names: &[FieldName], body: Body) -> Option<BodyRefusal>
-    requires { length names.now < 2 ^ 32 }
-    ensures { result ≡ fault_of N.Numbering.own names.now (body_part body.entry) }
-{
-    for index in 0..names.len() {
-        if is_faulty::<N>(names[index], body, index) {
-            return Some(BodyRefusal::Field {
+    fn check_fields<N: Numbering>(self) -> Result<(), BodyRefusal>
+        ensures { result_err result ≡ fault_of N.Numbering.own self.entry.kind (body_part self.entry.body) }
+    {
+        match self.first_faulty::<N>() {
+            Some(index) => Err(BodyRefusal::Field {
                 number: index + 1,
-                place: place_at(body, index),
-            });
+                place: place_at(self.body, index),
+            }),
+            None => Ok(()),
         }
     }
-    None
-}
 
-fn has_no_lifetime(kind: Kind, body: Body) -> bool
-    ensures { result ≡ no_lifetime kind body.entry.bytes.now }
-{
-    if !has_lifetime(kind) {
-        return false;
+    fn first_faulty<N: Numbering>(self) -> Option<usize>
+        ensures value { result ≡ position (faulty N.Numbering.own self.entry.kind self.entry.body.bytes.now) (layout self.entry.kind) }
+        ensures below { IfSome result (λ index. index < field_count self.entry.kind) }
+    {
+        layout(self.kind)
+            .iter()
+            .position(|name| self.is_faulty::<N>(*name))
     }
-    let count = layout(kind).len();
-    is_no_time(text_at(body, count - 2), text_at(body, count - 1))
-}
 
-fn has_lifetime(kind: Kind) -> bool
-    ensures { result ≡ has_lifetime kind }
-{
-    match kind {
-        Kind::Road | Kind::Point => true,
-        Kind::Alias | Kind::RoadRetirement | Kind::PointRetirement => false,
+    fn check_lifetime(self) -> Result<(), BodyRefusal>
+        ensures { result_err result ≡ cond (no_lifetime self.entry.kind self.entry.body.bytes.now) (Some Lifetime) None }
+    {
+        let effective = Instant::read_effective(self.text(FieldName::Effective));
+        let expire = Instant::read_expire(self.text(FieldName::Expire));
+        match (effective, expire) {
+            (Some(first), Some(end)) if !first.precedes(end) => Err(BodyRefusal::Lifetime),
+            _ => Ok(()),
+        }
     }
-}
-
-fn is_no_time(effective: &[u8], expire: &[u8]) -> bool
-    ensures { result ≡ no_time (instant_or earliest effective.now) (instant_or latest expire.now) }
-{
-    let Some(first) = Instant::read_effective(effective) else {
-        return false;
-    };
-    let Some(end) = Instant::read_expire(expire) else {
-        return false;
-    };
-    !first.precedes(end)
 }

@@ -1,19 +1,20 @@
 // What the fields of a body are.
 ghost use Rattle.std.specs.Prelude.{◌≡◌};
-ghost use Rattle.record.specs.Layouts.{is_required, is_required_text};
+ghost use Rattle.record.specs.Layouts.{is_required};
+ghost use Rattle.record.specs.Names.{same_name, whatever_layer};
 
 use territory::NumberingText;
 use text::{Layer, TextField};
 
 /// A side of a road.
-#[derive(Clone, Copy)]
+#[derive(Clone, Copy, Debug, PartialEq, Eq)]
 pub enum Side {
     Left,
     Right,
 }
 
 /// A field by what it says.
-#[derive(Clone, Copy)]
+#[derive(Clone, Copy, Debug, PartialEq, Eq)]
 pub enum FieldName {
     Identifier(Layer),
     RoadIdentifier,
@@ -33,20 +34,30 @@ impl FieldName {
         ensures { result ≡ is_required self }
     {
         match self {
-            FieldName::Text(field) | FieldName::SideText(_, field) => is_required_text(field),
+            // A street is known by its county and its name.
+            FieldName::Text(field) | FieldName::SideText(_, field) => {
+                matches!(field, TextField::StreetName | TextField::County)
+            }
             FieldName::Identifier(_) | FieldName::RoadIdentifier => true,
             FieldName::Place | FieldName::DateUpdate | FieldName::Retirement => true,
             FieldName::Numbering(_, _) | FieldName::Effective | FieldName::Expire => false,
         }
     }
-}
 
-// A street is known by its county and its name.
-fn is_required_text(field: TextField) -> bool
-    ensures { result ≡ is_required_text field }
-{
-    match field {
-        TextField::StreetName | TextField::County => true,
-        _ => false,
+    /// Whether both name one field. A kind has one identifier of its own, so the layer is no part of the name.
+    #[tactic(auto, using(crate::proofs::Labels::equal_same))]
+    pub(crate) fn is_same(self, other: FieldName) -> bool
+        ensures { result ≡ same_name self other }
+    {
+        self.whatever_layer() == other.whatever_layer()
+    }
+
+    fn whatever_layer(self) -> FieldName
+        ensures { result ≡ whatever_layer self }
+    {
+        match self {
+            FieldName::Identifier(_) => FieldName::Identifier(Layer::Road),
+            name => name,
+        }
     }
 }

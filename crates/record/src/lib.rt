@@ -4,11 +4,11 @@
 
 mod body_kinds;
 mod checking;
+mod described;
+mod field_keys;
 mod field_names;
 mod judging;
 mod layouts;
-mod named;
-mod naming;
 mod records;
 mod refusals;
 mod walking;
@@ -17,6 +17,7 @@ pub use body_kinds::{
     AliasBody, BodyKind, PointBody, PointRetirementBody, RoadBody, RoadRetirementBody,
 };
 pub use checking::refusal;
+pub use field_keys::FieldKey;
 pub use field_names::{FieldName, Side};
 pub use records::{Checked, check};
 pub use refusals::BodyRefusal;

@@ -6,17 +6,15 @@ ghost use Rattle.delivery.specs.Opened.{body_part};
 ghost use Rattle.record.specs.Bodies.{field_text};
 ghost use Rattle.record.specs.Checking.{refusal_of};
 ghost use Rattle.record.specs.Forms.{RefusedByForm};
-ghost use Rattle.record.specs.Judging.{reading_from};
 ghost use Rattle.record.specs.Layouts.{numbering_field, place_field, NumberingStands, PlaceStands};
 ghost use Rattle.record.specs.Laid.{Laid};
-ghost use Rattle.record.specs.Parts.{place_of, reading_of};
+ghost use Rattle.record.specs.Named.{text_given, NamesTell};
+ghost use Rattle.record.specs.Parts.{place_of, reading_from, reading_of};
 ghost use Rattle.record.specs.Passing.{accepted_part, passing, LeftToNumbering, Passes};
 ghost use Rattle.record.specs.Rules.{RefusedRightly, fields_of};
 
-use crate::checking::refusal;
-use crate::judging::read_from;
-use crate::walking::text_at;
-use crate::{BodyKind, BodyRefusal, PointBody, RoadBody, Side};
+use crate::described::Described;
+use crate::{BodyKind, BodyRefusal, FieldKey, FieldName, PointBody, RoadBody, Side};
 use delivery::Body;
 use instant::Instant;
 use std::marker::PhantomData;
@@ -26,58 +24,67 @@ mod parts;
 
 /// A body that passed the checks of its kind; only `check` makes one.
 #[derive(Drop)]
-pub struct Checked<'a, K> {
+pub struct Checked<'a, K: BodyKind> {
     body: Body<'a>,
     kind: PhantomData<K>,
+    pub ghost passed: { Passes K.KIND (body_part body) },
 }
 
 /// Checks a body of the kind, and refuses it with the first reason that applies.
+#[tactic(auto, using(crate::proofs::Refused::refused_rightly, crate::proofs::Refused::refused_by_form, crate::proofs::Passed::accepted_whole, crate::proofs::Passed::passes))]
 pub fn check<'a, N: Numbering, K: BodyKind>(body: Body<'a>) -> Result<Checked<'a, K>, BodyRefusal>
-    ensures value { accepted_part (λ c. body_part c.body) result ≡ passing N.Numbering.own K.BodyKind.kind (body_part body.entry) }
-    ensures rightly { RefusedRightly N.Numbering.own K.BodyKind.kind (body_part body.entry) (result_err result) }
-    ensures formed { RefusedByForm N.Numbering.own K.BodyKind.kind (body_part body.entry) (result_err result) }
-    ensures unrefused { OnOk result (refusal_of N.Numbering.own K.BodyKind.kind (body_part body.entry) ≡ None) }
-    ensures laid { OnOk result (Laid body.entry.bytes.now (fields_of K.BodyKind.kind body.entry.bytes.now)) }
-    ensures passes { OnOk result (Passes K.BodyKind.kind (body_part body.entry)) }
+    ensures value { accepted_part (λ c. body_part c.body) result ≡ passing N.Numbering.own K.BodyKind.KIND (body_part body.entry) }
+    ensures rightly { RefusedRightly N.Numbering.own K.BodyKind.KIND (body_part body.entry) (result_err result) }
+    ensures formed { RefusedByForm N.Numbering.own K.BodyKind.KIND (body_part body.entry) (result_err result) }
+    ensures unrefused { OnOk result (refusal_of N.Numbering.own K.BodyKind.KIND (body_part body.entry) ≡ None) }
+    ensures laid { OnOk result (Laid body.entry.bytes.now (fields_of K.BodyKind.KIND body.entry.bytes.now)) }
+    ensures passes { OnOk result (Passes K.BodyKind.KIND (body_part body.entry)) }
 {
-    answer::<N, K>(body)
-}
-
-fn answer<'a, N: Numbering, K: BodyKind>(body: Body<'a>) -> Result<Checked<'a, K>, BodyRefusal>
-    ensures { accepted_part (λ c. body_part c.body) result ≡ passing N.Numbering.own K.BodyKind.kind (body_part body.entry) }
-{
-    match refusal::<N>(K::kind(), body) {
-        Some(refusal) => Err(refusal),
-        None => Ok(Checked {
-            body,
-            kind: PhantomData,
-        }),
-    }
-}
-
-impl<'a, K> Checked<'a, K> {
-    /// The text of a field by its number in the layout of the kind, from 0; empty where there is no such field.
-    pub fn text(&self, index: usize) -> &'a [u8]
-        ensures { result.now ≡ field_text self.now.body.bytes.now index }
-    {
-        text_at(self.body, index)
-    }
-
-    /// The instant that a field tells, if it tells one: a DateUpdate, or a retirement's instant.
-    pub fn instant(&self, index: usize) -> Option<Instant>
-        ensures { result ≡ instant_in (field_text self.now.body.bytes.now index) }
-    {
-        Instant::read(self.text(index))
-    }
+    let described = Described {
+        kind: K::KIND,
+        body,
+    };
+    described.check::<N>()?;
+    Ok(Checked {
+        body,
+        kind: PhantomData,
+    })
 }
 
 impl<'a, K: BodyKind> Checked<'a, K> {
-    /// The first reason for which the body is refused by another numbering, if any; by its own, there is none.
-    pub fn refusal<N: Numbering>(&self) -> Option<BodyRefusal>
-        ensures value { result ≡ refusal_of N.Numbering.own K.BodyKind.kind (body_part self.now.body) }
-        ensures left { LeftToNumbering K.BodyKind.kind (body_part self.now.body) result }
+    /// The text of a field, by its number or its name; empty where there is no such field.
+    #[tactic(auto, using(crate::proofs::NamedTexts::names_tell))]
+    pub fn text<F: FieldKey>(&self, field: F) -> &'a [u8]
+        ensures value { result.now ≡ text_given self.now.body.bytes.now (F.index K.BodyKind.KIND field) }
+        ensures names { NamesTell K.BodyKind.KIND self.now.body.bytes.now }
     {
-        refusal::<N>(K::kind(), self.body)
+        self.described().text(field)
+    }
+
+    /// The instant that a field tells, if it tells one: a DateUpdate, or a retirement's instant.
+    pub fn instant<F: FieldKey>(&self, field: F) -> Option<Instant>
+        ensures { result ≡ instant_in (text_given self.now.body.bytes.now (F.index K.BodyKind.KIND field)) }
+    {
+        Instant::read(self.text(field))
+    }
+
+    /// The first reason for which the body is refused by another numbering, if any; by its own, there is none.
+    #[tactic(auto, using(crate::proofs::LeftOver::left_over))]
+    pub fn refusal<N: Numbering>(&self) -> Option<BodyRefusal>
+        ensures value { result ≡ refusal_of N.Numbering.own K.BodyKind.KIND (body_part self.now.body) }
+        ensures left { LeftToNumbering K.BodyKind.KIND result }
+    {
+        self.described().check::<N>().err()
+    }
+
+    fn described(&self) -> Described<'a>
+        ensures kind { result.kind ≡ K.BodyKind.KIND }
+        ensures body { body_part result.body ≡ body_part self.now.body }
+    {
+        Described {
+            kind: K::KIND,
+            body: self.body,
+        }
     }
 }
 
@@ -85,10 +92,11 @@ impl<'a> Checked<'a, RoadBody> {
     /// The numbering of a side.
     #[tactic(auto, using(crate::proofs::NamedReadings::reading_named))]
     pub fn numbering<N: Numbering>(&self, side: Side) -> Result<N, NumberingText>
+        ensures stands { NumberingStands side (numbering_field side) }
         ensures value { result ≡ reading_from N.Numbering.own self.now.body.bytes.now (numbering_field side) }
         ensures named { result ≡ reading_of N.Numbering.own self.now.body.bytes.now side }
     {
-        read_from::<N>(self.body, numbering_field(side))
+        self.described().numbering::<N>(side)
     }
 }
 
@@ -100,20 +108,6 @@ impl<'a> Checked<'a, PointBody> {
         ensures value { result ≡ N.Numbering.place (field_text self.now.body.bytes.now place_field) }
         ensures named { result ≡ place_of N.Numbering.own self.now.body.bytes.now }
     {
-        N::read_place(text_at(self.body, PLACE_FIELD))
-    }
-}
-
-const PLACE_FIELD: usize = 13;
-
-// Where the three numbering texts of a side begin.
-fn numbering_field(side: Side) -> usize
-    ensures value { result ≡ numbering_field side }
-    ensures low { result < 2 ^ 32 }
-    ensures stands { NumberingStands side result }
-{
-    match side {
-        Side::Left => 12,
-        Side::Right => 18,
+        N::read_place(self.text(FieldName::Place))
     }
 }

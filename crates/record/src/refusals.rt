@@ -1,9 +1,12 @@
 // Why a body is refused.
 ghost use Rattle.std.specs.Prelude.{◌≡◌};
 ghost use Rattle.record.specs.Refusals.{refusal_number};
+ghost use Rattle.record.specs.declared.refusals.BodyRefusal.TheVariants.{Broken};
+
+use delivery::FieldPastEnd;
 
 /// The reasons for which a body is refused, in the order in which they are looked for.
-#[derive(Clone, Copy)]
+#[derive(Clone, Copy, Debug, PartialEq, Eq)]
 pub enum BodyRefusal {
     /// The place of a field that passes the body's end, or of the first byte left over.
     Broken(usize),
@@ -14,6 +17,7 @@ pub enum BodyRefusal {
 }
 
 impl BodyRefusal {
+    /// The number of the reason in the list of refusals.
     pub fn number(self) -> u8
         ensures { result ≡ refusal_number self }
     {
@@ -22,5 +26,13 @@ impl BodyRefusal {
             BodyRefusal::Field { .. } => 5,
             BodyRefusal::Lifetime => 6,
         }
+    }
+}
+
+impl From<FieldPastEnd> for BodyRefusal {
+    ghost from_gives = { λ past refusal. refusal ≡ Broken past.place };
+
+    fn from(past: FieldPastEnd) -> BodyRefusal {
+        BodyRefusal::Broken(past.place)
     }
 }

@@ -1,18 +1,22 @@
-// Finding a field of a body by its number, and where a body breaks.
+// Finding a field of a body by its number, and whether a body is whole.
 ghost use Rattle.std.specs.Prelude.{◌≡◌};
-ghost use Rattle.std.specs.Result.{result_map_both};
+ghost use Rattle.std.specs.Option.{option_map};
+ghost use Rattle.std.specs.Result.{result_err, result_map_both};
 ghost use Rattle.delivery.specs.Opened.{body_part};
 ghost use Rattle.delivery.specs.Fields.{field_part, place_in};
 ghost use Rattle.record.specs.Bodies.{field_of, field_start, field_text, broken_at};
+ghost use Rattle.record.specs.declared.refusals.BodyRefusal.TheVariants.{Broken};
 
-use delivery::{Body, Field, FieldReader};
+use crate::BodyRefusal;
+use delivery::{Body, Field, FieldPastEnd, FieldReader};
 
-pub(crate) fn field_at<'a>(body: Body<'a>, index: usize) -> Result<Field<'a>, usize>
-    ensures { result_map_both field_part (λ p. p) result ≡ field_of (body_part body.entry) index }
+#[tactic(auto, using(crate::proofs::Walks::start_first))]
+pub(crate) fn field_at<'a>(body: Body<'a>, index: usize) -> Result<Field<'a>, FieldPastEnd>
+    ensures { result_map_both field_part (λ past. past.place) result ≡ field_of (body_part body.entry) index }
 {
     let mut reader = FieldReader::new(body);
-    for passed in 0..index {
-        let _ = reader.field();
+    for _ in 0..index {
+        reader.field()?;
     }
     reader.field()
 }
@@ -33,19 +37,21 @@ pub(crate) fn place_at(body: Body, index: usize) -> usize
 {
     match field_at(body, index) {
         Ok(field) => field.place,
-        Err(place) => place,
+        Err(past) => past.place,
     }
 }
 
-// The place at which a body of so many fields breaks: of a field that passes its end, or of a byte left over.
-pub(crate) fn broken_at(body: Body, count: usize) -> Option<usize>
-    ensures { result ≡ broken_at (body_part body.entry) 0 count }
+// That a body is so many fields and nothing else.
+#[tactic(auto, using(crate::proofs::Walks::ends))]
+pub(crate) fn check_whole(body: Body, count: usize) -> Result<(), BodyRefusal>
+    ensures { result_err result ≡ option_map Broken (broken_at (body_part body.entry) 0 count) }
 {
     let mut reader = FieldReader::new(body);
-    for passed in 0..count {
-        if let Err(place) = reader.field() {
-            return Some(place);
-        }
+    for _ in 0..count {
+        reader.field()?;
     }
-    reader.left_over()
+    match reader.left_over() {
+        Some(place) => Err(BodyRefusal::Broken(place)),
+        None => Ok(()),
+    }
 }

@@ -3,6 +3,6 @@ use Rattle.delivery.specs.Opened.{body_part}
 use Rattle.record.specs.Bodies.{field_start}
 use Rattle.record.proofs.walking.field_at.Given as goal
 
-abbrev pub invariant-loop-passed : goal.invariant-loop-passed
-invariant-loop-passed l =
-    (body_part l.reader.body ≡ body_part l.initial.reader.body) × (l.reader.at ≡ field_start l.initial.reader.body.bytes.now l.passed)
+abbrev pub invariant-loop : goal.invariant-loop
+invariant-loop l =
+    (body_part l.reader.body ≡ body_part l.body) × (l.reader.at ≡ field_start l.body.bytes.now l.counter)
