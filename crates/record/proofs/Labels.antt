@@ -1,5 +1,5 @@
 -- Two names are called the same, and have the same side, exactly where they are equal, whatever an identifier's layer. Assumes nothing.
-use Rattle.std.proofs.Common.{◌≡◌, ℕ, cond, codes, List, [], ◌∷◌, map, Some, None, Decides, Option, refl, sym, ap, ◌∙◌, arith}
+use Rattle.std.proofs.Common.{◌≡◌, ℕ, cond, codes, List, [], ◌∷◌, map, Some, None, Decides, Option, sym, ◌∙◌, arith}
 use Rattle.std.specs.List.{find}
 use Rattle.std.specs.Str.{bytes_eq}
 use Rattle.std.proofs.lemmas.Bool.Decides.{Decides-and, Decides-like, same_from_decides}
@@ -28,26 +28,11 @@ called text = find (λ name. bytes_eq (label name) text) sideless
 
 text_called : (field : TextField) → called (text_label field) ≡ Some (Text field)
 unfolding called sideless
-text_called PreModifier = refl
-text_called PreDirectional = refl
-text_called PreType = refl
-text_called PreSeparator = refl
-text_called StreetName = refl
-text_called PostType = refl
-text_called PostDirectional = refl
-text_called PostModifier = refl
-text_called FullName = refl
-text_called County = refl
-text_called Municipality = refl
-text_called NumberPrefix = refl
-text_called NumberSuffix = refl
-text_called Unit = refl
+text_called field = grind arith
 
 numbering_called : (which : NumberingText) → called (numbering_label which) ≡ Some (Numbering Left which)
 unfolding called sideless
-numbering_called First = refl
-numbering_called Second = refl
-numbering_called Third = refl
+numbering_called which = grind arith
 
 -- the name that has a side and a label
 sided : List ℕ → Option FieldName → Option FieldName
@@ -59,18 +44,7 @@ sided side (Some name) = Some name
 -- the side and the label tell the name
 told : (name : FieldName) → sided (side_of name) (called (label name)) ≡ Some (whatever_layer name)
 unfolding sided called sideless
-told (Identifier which) = refl
-told RoadIdentifier = refl
-told (Text field) = ap (sided []) (text_called field)
-told (SideText Left field) = ap (sided (codes "left")) (text_called field)
-told (SideText Right field) = ap (sided (codes "right")) (text_called field)
-told (Numbering Left which) = ap (sided (codes "left")) (numbering_called which)
-told (Numbering Right which) = ap (sided (codes "right")) (numbering_called which)
-told Place = refl
-told DateUpdate = refl
-told Effective = refl
-told Expire = refl
-told Retirement = refl
+told name = grind (arith, text_called, numbering_called)
 
 -- and follow from it
 follow : (name : FieldName) → (label (whatever_layer name) ≡ label name) × (side_of (whatever_layer name) ≡ side_of name)

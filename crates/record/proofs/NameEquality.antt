@@ -1,22 +1,14 @@
 -- What `==` answers of two names. Assumes nothing.
 use Rattle.std.proofs.Common.{◌≡◌, true, Decides, subst, arith}
 use Rattle.record.specs.declared.field_names.FieldName.{FieldName}
-use Rattle.record.specs.declared.field_names.FieldName.TheVariants.{Identifier, RoadIdentifier, Text, SideText, Numbering, Place, DateUpdate, Effective, Expire, Retirement}
+use Rattle.record.specs.declared.field_names.FieldName.TheVariants.{SideText}
 use Rattle.record.specs.declared.field_names.Side.TheVariants.{Left, Right}
 use Rattle.record.specs.contracts.field_names.FieldNamePartialEq.TheImpl.{eq-value}
 
 one : (a b : FieldName) → eq-value.it a b ≡ true → a ≡ b
-one (Identifier which) b = grind arith
-one RoadIdentifier b = grind arith
-one (Text field) b = grind arith
-one (SideText Left field) b = grind arith
-one (SideText Right field) b = grind arith
-one (Numbering side which) b = grind arith
-one Place b = grind arith
-one DateUpdate b = grind arith
-one Effective b = grind arith
-one Expire b = grind arith
-one Retirement b = grind arith
+one a (SideText Left field) = grind arith
+one a (SideText Right field) = grind arith
+one a b = grind arith
 
 itself : (a : FieldName) → eq-value.it a a ≡ true
 itself a = grind arith

@@ -12,6 +12,10 @@ most_digits = 6
 abbrev pub greatest_number : ℕ
 greatest_number = 999999
 
+-- the most bytes that a number is written in
+abbrev pub written_width : ℕ
+written_width = 14
+
 -- the bytes of the digits, and the digits of the bytes
 abbrev pub spelled : List ℕ → List ℕ
 spelled digits = map (λ digit. 48 + digit) digits

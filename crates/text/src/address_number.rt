@@ -1,7 +1,7 @@
 // Address numbers, and the decimal texts that they are read from and written as.
 ghost use Rattle.std.specs.Prelude.{◌≡◌, ◌≤◌, length, Some};
 ghost use Rattle.promise.specs.Exactly.{Exactly};
-ghost use Rattle.text.specs.AddressNumber.{NotPast, NumberText, ReadsBack, digits_value, most_digits, read_number, written_number};
+ghost use Rattle.text.specs.AddressNumber.{NotPast, NumberText, ReadsBack, digits_value, most_digits, read_number, written_number, written_width};
 
 use arrayvec::ArrayVec;
 use itoa::Buffer;
@@ -40,7 +40,7 @@ impl AddressNumber {
     #[tactic(auto, using(std::proofs::lemmas::Fmt::decimal_nonempty))]
     pub fn write(self) -> ArrayVec<u8, WRITTEN_WIDTH>
         ensures writes { result.items ≡ written_number self }
-        ensures width { (1 ≤ length result.items) × (length result.items ≤ WRITTEN_WIDTH) }
+        ensures width { (1 ≤ length result.items) × (length result.items ≤ written_width) }
     {
         let mut out = ArrayVec::new();
         out.try_extend_from_slice(Buffer::new().format(self.value).as_bytes())
