@@ -7,7 +7,7 @@ use Rattle.promise.specs.First.{first_from, first_below, any_below}
 module _ (test : ℕ → Bool) where
   at_step : (i k : ℕ) → first_from test i (suc k) ≡ cond (test i) (Some i) (first_from test (i + 1) k)
   unfolding first_from
-  at_step i k = let e : suc i ≡ i + 1 = omega arith in ap (λ m. cond (test i) (Some i) (first_from test m k)) e
+  at_step i k = refl
 
   left : (i n : ℕ) → i < n → n - i ≡ suc (n - (i + 1))
   left i n h = omega arith
@@ -32,12 +32,12 @@ module _ (test : ℕ → Bool) where
 
   found_at : (i k at : ℕ) → first_from test i k ≡ Some at → Found i k at
   unfolding first_from
-  found_at i zero at e = absurd (let z : true ≡ false = cc in true≢false z)
+  found_at i zero at e = cc
   found_at i (suc k) at e =
       ⊎_elim
-      (λ yes'. let same : i ≡ at = let h = sym (cond-true (test i) (Some i) (first_from test (suc i) k) yes') ∙ e in cc in
+      (λ yes'. let same : i ≡ at = let h = sym (cond-true (test i) (Some i) (first_from test (i + 1) k) yes') ∙ e in cc in
       record { from = omega arith; below = omega arith; passes = ap test (sym same) ∙ yes'; none_before = λ j a b. absurd (omega arith) })
-      (λ no'. let rest = found_at (suc i) k at (sym (cond-false (test i) (Some i) (first_from test (suc i) k) no') ∙ e) in
+      (λ no'. let rest = found_at (i + 1) k at (sym (cond-false (test i) (Some i) (first_from test (i + 1) k) no') ∙ e) in
       record {
         from = omega (arith, rest.from);
         below = omega (arith, rest.below);
@@ -51,10 +51,10 @@ module _ (test : ℕ → Bool) where
   none_at i zero e j a b = absurd (omega arith)
   none_at i (suc k) e j a b =
       ⊎_elim
-      (λ yes'. absurd (let h = sym (cond-true (test i) (Some i) (first_from test (suc i) k) yes') ∙ e in let z : true ≡ false = cc in true≢false z))
+      (λ yes'. absurd (let h = sym (cond-true (test i) (Some i) (first_from test (i + 1) k) yes') ∙ e in let z : true ≡ false = cc in true≢false z))
       (λ no'. ⊎_elim
       (λ same. ap test (sym same) ∙ no')
-      (⊎_elim (λ after. none_at (suc i) k (sym (cond-false (test i) (Some i) (first_from test (suc i) k) no') ∙ e) j (omega arith) (omega arith)) (λ before. absurd (omega arith)))
+      (⊎_elim (λ after. none_at (i + 1) k (sym (cond-false (test i) (Some i) (first_from test (i + 1) k) no') ∙ e) j (omega arith) (omega arith)) (λ before. absurd (omega arith)))
       (cases_order i j))
       (cases_Bool (test i))
 
