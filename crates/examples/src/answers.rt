@@ -44,10 +44,12 @@ fn identifier(layer: Layer, text: &[u8]) -> Option<Reading> {
 fn meeting(texts: Texts) -> Option<Reading> {
     let one = lifetime(texts)?;
     let other = lifetime(texts.after(2))?;
-    match one.common(&other) {
-        Some(instant) => Some(Reading::Tenths(instant.tenths)),
-        None => Some(Reading::NothingShared),
-    }
+    Some(
+        one.common(&other).map_or(
+            Reading::NothingShared,
+            |instant| Reading::Tenths(instant.tenths),
+        ),
+    )
 }
 
 fn lifetime(texts: Texts) -> Option<Lifetime> {

@@ -19,8 +19,10 @@ pub(crate) fn holds<N: Numbering>(texts: Texts) -> Option<Reading> {
 pub(crate) fn meets<N: Numbering>(texts: Texts) -> Option<Reading> {
     let one: N = read(texts).ok()?;
     let other: N = read(texts.after(3)).ok()?;
-    match one.common(&other) {
-        Some(place) => Some(Reading::Place(N::write_place(place))),
-        None => Some(Reading::NothingShared),
-    }
+    Some(
+        one.common(&other).map_or(
+            Reading::NothingShared,
+            |place| Reading::Place(N::write_place(place)),
+        ),
+    )
 }

@@ -49,10 +49,7 @@ impl<'a> Texts<'a> {
     }
 
     pub(crate) fn at(self, place: usize) -> &'a [u8] {
-        match self.texts.get(place) {
-            Some(text) => text,
-            None => b"",
-        }
+        self.texts.get(place).copied().unwrap_or(b"")
     }
 
     // The texts after so many of them.

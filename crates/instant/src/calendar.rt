@@ -2,7 +2,7 @@
 
 ghost use Rattle.std.specs.Prelude.{◌≡◌, ◌-◌, true, is_some, IfSome};
 ghost use Rattle.instant.specs.Calendar.{leap, days_in_month, days_of_months, days_of_years, is_date, calendar_day};
-ghost use Rattle.instant.specs.Calendar.{first_year, last_year, days_from_1900};
+ghost use Rattle.instant.specs.Calendar.{first_year, days_from_1900};
 
 const FIRST_YEAR: u32 = 1900;
 
@@ -65,6 +65,7 @@ impl Date {
     }
 
     // The days of the years from 1900 up to, without, the date's.
+    #[tactic(auto, using(crate::proofs::Days::rule_is_count))]
     fn days_before_year(self) -> u32
         ensures { result ≡ days_of_years (self.year - first_year) }
     {

@@ -3,5 +3,5 @@
 use crate::Instant;
 use territory::Interval;
 
-/// Its `first` is the Effective, and its `end` the Expire.
+/// The instants from an Effective, its `first`, up to, without, an Expire, its `end`.
 pub type Lifetime = Interval<Instant>;

@@ -7,10 +7,12 @@ ghost use Rattle.instant.specs.Limits.{earliest, latest, is_within, instant_or, 
 use crate::date_time::Instant;
 
 impl Instant {
+    /// Stands for a missing Effective.
     pub const EARLIEST: Instant = Instant {
         tenths: -1_000_000_000_000,
     };
 
+    /// Stands for a missing Expire.
     pub const LATEST: Instant = Instant {
         tenths: 1_000_000_000_000,
     };

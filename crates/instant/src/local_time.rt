@@ -20,7 +20,7 @@ pub(crate) struct LocalTime {
 impl LocalTime {
     pub(crate) const FORM: &'static [u8; 19] = b"0000-00-00T00:00:00";
 
-    // Reads `YYYY-MM-DDThh:mm:ss`; the numbers may still be past their limits.
+    /// Reads `YYYY-MM-DDThh:mm:ss`; the numbers may still be past their limits.
     pub(crate) fn read(text: &[u8]) -> Option<LocalTime>
         ensures { result ≡ time_in text.now }
     {
@@ -43,7 +43,7 @@ impl LocalTime {
         self.hour <= 23 && self.minute <= 59 && self.second <= 59
     }
 
-    // The seconds from 1970-01-01T00:00:00 by the same clock; none if there is no such date or time of day.
+    /// The seconds from 1970-01-01T00:00:00 by the same clock; none if there is no such date or time of day.
     pub(crate) fn seconds_from_1970(self) -> Option<i64>
         ensures { result ≡ seconds_in self }
     {

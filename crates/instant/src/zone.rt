@@ -20,7 +20,7 @@ fn offset_minutes(text: &[u8]) -> Option<u32>
     (minutes <= 59 && offset <= LARGEST_OFFSET).then_some(offset)
 }
 
-// The minutes that a zone's clock is ahead of UTC, negative where it is behind.
+/// The minutes that a zone's clock is ahead of UTC, negative where it is behind.
 #[tactic(auto, using(crate::proofs::Fronts::one_alone, crate::proofs::Fronts::one_before))]
 pub(crate) fn zone_minutes(text: &[u8]) -> Option<i64>
     ensures { result ≡ zone_in text.now }
