@@ -11,11 +11,13 @@ ghost use Rattle.lots.specs.Laws.LotsWritten.{one_digit, back};
 use arrayvec::ArrayVec;
 use territory::{Numbering, NumberingText, PLACE_WIDTH, Territory};
 
+/// A lot of the park, by its number.
 #[derive(Clone, Copy, Debug, PartialEq, Eq)]
 pub struct Lot {
     pub number: u8,
 }
 
+/// The lots from a first to a last one, both included.
 #[derive(Clone, Copy, Debug, PartialEq, Eq)]
 pub struct Lots {
     pub first: u8,
@@ -34,7 +36,7 @@ impl Territory for Lots {
     ghost lawful = { Prim.search rules };
 
     fn holds(&self, point: Lot) -> bool {
-        self.first <= point.number && point.number <= self.last
+        (self.first..=self.last).contains(&point.number)
     }
 
     fn same(a: Lot, b: Lot) -> bool {

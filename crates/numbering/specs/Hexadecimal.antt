@@ -1,7 +1,7 @@
 -- Hexadecimal numbers of a fixed count of digits, 0 to 9 and A to F, the highest first. Assumes nothing.
 use Rattle.std.specs.Prelude.{◌≡◌, ℕ, ◌+◌, ◌-◌, ◌*◌, cond, ◌&&◌, List, [], ◌∷◌, map, length, Some, None, Option, ◌==◌, nat_le, nat_lt}
 use Rattle.std.specs.Int.Digits.{number_from_digits, AllBelowBase}
-use Rattle.text.specs.Nguids.{next}
+use Rattle.std.specs.Option.{option_and_then}
 
 abbrev pub digit_count : ℕ
 digit_count = 16
@@ -25,7 +25,7 @@ hex_digit byte =
 -- the number that the text completes
 unfoldable pub hex_after : ℕ → List ℕ → Option ℕ
 hex_after begun [] = Some begun
-hex_after begun (byte ∷ rest) = next (hex_digit byte) (λ digit. hex_after (begun * 16 + digit) rest)
+hex_after begun (byte ∷ rest) = option_and_then (λ digit. hex_after (begun * 16 + digit) rest) (hex_digit byte)
 
 abbrev pub hex_number : List ℕ → Option ℕ
 hex_number text = cond (length text == digit_count) (hex_after 0 text) None

@@ -1,8 +1,8 @@
 -- Marks: 64 numbers in a row from a first one on, each held or not. Assumes nothing.
 use Rattle.std.specs.Prelude.{◌≡◌, ℕ, ◌+◌, ◌-◌, ◌/◌, ◌%◌, ◌^◌, ◌≤◌, Bool, cond, ◌&&◌, List, [], length, Some, None, Option, Result, ◌==◌, nat_le, nat_lt}
+use Rattle.std.specs.Option.{option_and_then}
 use Rattle.territory.specs.declared.numberings.NumberingText.{NumberingText}
 use Rattle.text.specs.AddressNumber.{NumberText, greatest_number, read_number}
-use Rattle.text.specs.Nguids.{next}
 use Rattle.text.specs.declared.address_number.AddressNumber.{AddressNumber}
 use Rattle.numbering.specs.Hexadecimal.{HexText, hex_number}
 use Rattle.numbering.specs.Places.{address}
@@ -47,7 +47,7 @@ abbrev pub if_at_most : AddressNumber → Option AddressNumber
 if_at_most first = cond (nat_le first.value greatest_first) (Some first) None
 
 abbrev pub first_number : List ℕ → Option AddressNumber
-first_number text = next (read_number text) if_at_most
+first_number text = option_and_then if_at_most (read_number text)
 
 abbrev pub marks_from : List ℕ → AddressNumber → ℕ → Option Marks
 marks_from third first bits = cond (length third == 0) (Some (record { first = first.value; bits = bits })) None

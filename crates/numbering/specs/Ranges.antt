@@ -1,8 +1,8 @@
 -- Ranges: the numbers of one parity between two ends. Assumes nothing.
 use Rattle.std.specs.Prelude.{◌≡◌, ℕ, suc, min, max, Bool, cond, ◌&&◌, List, Some, None, Option, Result, nat_le}
+use Rattle.std.specs.Option.{option_and_then}
 use Rattle.territory.specs.declared.numberings.NumberingText.{NumberingText}
 use Rattle.text.specs.AddressNumber.{NumberText, read_number}
-use Rattle.text.specs.Nguids.{next}
 use Rattle.text.specs.declared.address_number.AddressNumber.{AddressNumber}
 use Rattle.numbering.specs.Parities.{Agrees, agrees, allows, letter, parity_of}
 use Rattle.numbering.specs.Places.{address}
@@ -39,7 +39,7 @@ abbrev pub if_agreed : ℕ → ℕ → Parity → Option Range
 if_agreed from to parity = cond (agrees parity from to) (Some (record { from = from; to = to; parity = parity })) None
 
 abbrev pub range_between : List ℕ → AddressNumber → AddressNumber → Option Range
-range_between third from to = next (parity_of third) (if_agreed from.value to.value)
+range_between third from to = option_and_then (if_agreed from.value to.value) (parity_of third)
 
 abbrev pub range_reading : List ℕ → List ℕ → List ℕ → Result Range NumberingText
 range_reading first second third = read_three (read_number first) (read_number second) (range_between third)

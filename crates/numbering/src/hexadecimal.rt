@@ -4,7 +4,7 @@ ghost use Rattle.numbering.specs.Hexadecimal.{hex_digit, hex_number};
 
 const DIGIT_COUNT: usize = 16;
 
-// Exactly 16 digits, the highest first.
+/// The number of exactly 16 digits, the highest first.
 pub(crate) fn read_hexadecimal(text: &[u8]) -> Option<u64>
     ensures { result ≡ hex_number text.now }
 {

@@ -1,9 +1,9 @@
 // Numbers in a row, each held or not.
-ghost use Rattle.std.specs.Prelude.{◌≡◌, ℕ, ◌/◌, ◌^◌};
+ghost use Rattle.std.specs.Prelude.{◌≡◌, ◌/◌, ◌^◌};
 ghost use Rattle.std.specs.Result.{result_err, result_ok};
 ghost use Rattle.promise.specs.Exactly.{Exactly};
 ghost use Rattle.text.specs.AddressNumber.{read_number};
-ghost use Rattle.numbering.specs.Least.{Least, both_hold, least_shared};
+ghost use Rattle.numbering.specs.Least.{Least, least_shared};
 ghost use Rattle.numbering.specs.Marks.{MarksFault, MarksTexts, first_number, marks_hold, marks_past, marks_reading};
 ghost use Rattle.numbering.specs.Places.{same_number, written_place};
 ghost use Rattle.numbering.specs.Laws.Leasts.{least_lawful};
@@ -18,8 +18,8 @@ use text::AddressNumber;
 
 const GREATEST_NUMBER: u32 = 999_999;
 
-// From it on the last of 64 numbers is the greatest.
-const GREATEST_FIRST: u32 = 999_936;
+// The first number from which the last of all marks is the greatest number.
+const GREATEST_FIRST: u32 = GREATEST_NUMBER - (u64::BITS - 1);
 
 /// Number `first + i` is held where bit `i` is set, up to the greatest number. Plain values: any can stand in a table.
 #[derive(Clone, Copy, Debug, PartialEq, Eq)]
@@ -35,6 +35,7 @@ impl NumberSet for Marks {
 
     ghost bounded = { bounded };
 
+    #[tactic(auto, using(crate::specs::Laws::MarkLaws::shares))]
     fn shared(&self, other: &Marks) -> Marks {
         let first = self.first.max(other.first);
         Marks {
@@ -44,6 +45,7 @@ impl NumberSet for Marks {
         }
     }
 
+    #[tactic(auto, using(crate::specs::Laws::MarkLaws::none_marked, crate::specs::Laws::MarkLaws::past_greatest, crate::specs::Laws::MarkLaws::lowest_past, crate::specs::Laws::MarkLaws::at_lowest))]
     fn least(&self) -> Option<AddressNumber> {
         if self.bits == 0 || self.first > GREATEST_NUMBER {
             return None;
@@ -67,6 +69,7 @@ impl Territory for Marks {
 
     ghost lawful = { least_lawful _ _ bounded };
 
+    #[tactic(auto, using(crate::specs::Laws::MarkLaws::told_by_bit))]
     fn holds(&self, point: AddressNumber) -> bool {
         let number = point.value;
         self.first <= number
@@ -96,12 +99,21 @@ impl Numbering for Marks {
     ghost writes = { places_written };
 
     // The first number, the bits in hexadecimal, and an empty text.
+    #[tactic(auto, using(crate::specs::Laws::MarkLaws::exactly_told))]
     fn read(first: &[u8], bits: &[u8], rest: &[u8]) -> Result<Marks, NumberingText>
         ensures value { result ≡ marks_reading first.now bits.now rest.now }
         ensures exactly { Exactly (MarksTexts first.now bits.now rest.now) (result_ok result) }
         ensures at_fault { MarksFault first.now bits.now rest.now (result_err result) }
     {
-        read_marks(first, bits, rest)
+        let first = read_first(first).ok_or(NumberingText::First)?;
+        let bits = read_hexadecimal(bits).ok_or(NumberingText::Second)?;
+        if !rest.is_empty() {
+            return Err(NumberingText::Third);
+        }
+        Ok(Marks {
+            first: first.value,
+            bits,
+        })
     }
 
     fn read_place(text: &[u8]) -> Option<AddressNumber> {
@@ -111,20 +123,6 @@ impl Numbering for Marks {
     fn write_place(point: AddressNumber) -> ArrayVec<u8, PLACE_WIDTH> {
         point.write()
     }
-}
-
-fn read_marks(first: &[u8], bits: &[u8], rest: &[u8]) -> Result<Marks, NumberingText>
-    ensures { result ≡ marks_reading first.now bits.now rest.now }
-{
-    let first = read_first(first).ok_or(NumberingText::First)?;
-    let bits = read_hexadecimal(bits).ok_or(NumberingText::Second)?;
-    if !rest.is_empty() {
-        return Err(NumberingText::Third);
-    }
-    Ok(Marks {
-        first: first.value,
-        bits,
-    })
 }
 
 fn read_first(text: &[u8]) -> Option<AddressNumber>

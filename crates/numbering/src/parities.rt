@@ -1,7 +1,8 @@
-// Which of the numbers between its ends a range holds.
+// Parities: their letters, and the numbers that they allow.
 ghost use Rattle.std.specs.Prelude.{◌≡◌, ℕ, ◌&&◌};
 ghost use Rattle.numbering.specs.Parities.{agrees, allows, parity_of};
 
+/// Which of the numbers between its ends a range holds.
 #[derive(Clone, Copy, Debug, PartialEq, Eq)]
 pub enum Parity {
     Odd,
@@ -11,7 +12,7 @@ pub enum Parity {
 }
 
 impl Parity {
-    // One letter: O odd, E even, B both, Z neither.
+    /// One letter: O odd, E even, B both, Z neither.
     pub(crate) fn read(text: &[u8]) -> Option<Parity>
         ensures { result ≡ parity_of text.now }
     {
@@ -27,6 +28,7 @@ impl Parity {
         }
     }
 
+    /// Whether a number is of the parity.
     pub(crate) fn allows(self, number: u32) -> bool
         ensures { result ≡ allows self number }
     {
@@ -38,6 +40,7 @@ impl Parity {
         }
     }
 
+    /// Whether a range of the parity may have the two ends.
     pub(crate) fn agrees(self, from: u32, to: u32) -> bool
         ensures { result ≡ agrees self from to }
     {
@@ -47,7 +50,7 @@ impl Parity {
         }
     }
 
-    // What both allow.
+    /// The parity that allows what both allow.
     pub(crate) fn shared(self, other: Parity) -> Parity
         ensures { (n : ℕ) → allows result n ≡ (allows self n && allows other n) }
     {

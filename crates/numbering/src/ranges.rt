@@ -1,9 +1,9 @@
 // The numbers of one parity between two ends.
-ghost use Rattle.std.specs.Prelude.{◌≡◌, ℕ};
+ghost use Rattle.std.specs.Prelude.{◌≡◌};
 ghost use Rattle.std.specs.Result.{result_err, result_ok};
 ghost use Rattle.promise.specs.Exactly.{Exactly};
 ghost use Rattle.text.specs.AddressNumber.{read_number};
-ghost use Rattle.numbering.specs.Least.{Least, both_hold, least_shared};
+ghost use Rattle.numbering.specs.Least.{Least, least_shared};
 ghost use Rattle.numbering.specs.Places.{same_number, written_place};
 ghost use Rattle.numbering.specs.Ranges.{RangeFault, RangeTexts, high, low, range_holds, range_past, range_reading};
 ghost use Rattle.numbering.specs.Laws.Leasts.{least_lawful};
@@ -16,7 +16,7 @@ use arrayvec::ArrayVec;
 use territory::{Numbering, NumberingText, PLACE_WIDTH, Territory};
 use text::AddressNumber;
 
-/// Plain values: any numbers can stand in a table, and either end can be the smaller one.
+/// The numbers of one parity between two ends, both included. Plain values: any numbers can stand in a table, and either end can be the smaller one.
 #[derive(Clone, Copy, Debug, PartialEq, Eq)]
 pub struct Range {
     pub from: u32,
@@ -45,6 +45,7 @@ impl NumberSet for Range {
 
     ghost bounded = { bounded };
 
+    #[tactic(auto, using(std::proofs::lemmas::Bool::Decides::nat_tests))]
     fn shared(&self, other: &Range) -> Range {
         let from = self.low().max(other.low());
         let to = self.high().min(other.high());
@@ -81,7 +82,7 @@ impl Territory for Range {
     ghost lawful = { least_lawful _ _ bounded };
 
     fn holds(&self, point: AddressNumber) -> bool {
-        self.low() <= point.value && point.value <= self.high() && self.parity.allows(point.value)
+        (self.low()..=self.high()).contains(&point.value) && self.parity.allows(point.value)
     }
 
     fn same(a: AddressNumber, b: AddressNumber) -> bool {
@@ -106,12 +107,22 @@ impl Numbering for Range {
     ghost writes = { places_written };
 
     // The ends, and a parity that agrees with them.
+    #[tactic(auto, using(crate::specs::Laws::RangeLaws::exactly_told))]
     fn read(from: &[u8], to: &[u8], parity: &[u8]) -> Result<Range, NumberingText>
         ensures value { result ≡ range_reading from.now to.now parity.now }
         ensures exactly { Exactly (RangeTexts from.now to.now parity.now) (result_ok result) }
         ensures at_fault { RangeFault from.now to.now parity.now (result_err result) }
     {
-        read_range(from, to, parity)
+        let from = AddressNumber::read(from).ok_or(NumberingText::First)?;
+        let to = AddressNumber::read(to).ok_or(NumberingText::Second)?;
+        let parity = Parity::read(parity)
+            .filter(|parity| parity.agrees(from.value, to.value))
+            .ok_or(NumberingText::Third)?;
+        Ok(Range {
+            from: from.value,
+            to: to.value,
+            parity,
+        })
     }
 
     fn read_place(text: &[u8]) -> Option<AddressNumber> {
@@ -121,19 +132,4 @@ impl Numbering for Range {
     fn write_place(point: AddressNumber) -> ArrayVec<u8, PLACE_WIDTH> {
         point.write()
     }
-}
-
-fn read_range(from: &[u8], to: &[u8], parity: &[u8]) -> Result<Range, NumberingText>
-    ensures { result ≡ range_reading from.now to.now parity.now }
-{
-    let from = AddressNumber::read(from).ok_or(NumberingText::First)?;
-    let to = AddressNumber::read(to).ok_or(NumberingText::Second)?;
-    let parity = Parity::read(parity)
-        .filter(|parity| parity.agrees(from.value, to.value))
-        .ok_or(NumberingText::Third)?;
-    Ok(Range {
-        from: from.value,
-        to: to.value,
-        parity,
-    })
 }

@@ -4,5 +4,4 @@ pub mod Meaning
 pub mod Order
 pub mod Pairs
 pub mod Places
-pub mod Singles
 pub mod Stretches

@@ -8,10 +8,11 @@ pub trait Bound: Copy {
 
     ghost level: { Self → Self → Bool };
 
+    /// Whether it comes before the other.
     fn precedes(self, other: Self) -> bool
         ensures { result ≡ before self other };
 
-    /// Level values stand for each other in the order.
+    /// Whether neither comes before the other. Level values stand for each other in the order.
     fn is_level_with(self, other: Self) -> bool
         ensures { result ≡ level self other };
 

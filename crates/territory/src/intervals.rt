@@ -1,7 +1,7 @@
 // Stretches that keep in their type that the first bound is never after the end.
 ghost use Rattle.std.specs.Prelude.{◌≡◌, false, not, ⊤};
 ghost use Rattle.std.specs.Option.{option_map};
-ghost use Rattle.territory.specs.Singles.{told_if};
+ghost use Rattle.std.specs.Bool.{then_some};
 ghost use Rattle.territory.specs.Stretches.{from_to, lies_within, meeting};
 ghost use Rattle.territory.specs.Laws.Seen.{lawful_through};
 ghost use Rattle.territory.specs.Laws.Stretched.{stretch_lawful};
@@ -23,7 +23,7 @@ pub struct Interval<B: Bound> {
 impl<B: Bound> Interval<B> {
     /// None where the first bound is after the end.
     pub fn new(first: B, end: B) -> Option<Interval<B>>
-        ensures { option_map (λ s. from_to s.first s.end) result ≡ told_if (not (B.Bound.before end first)) (from_to first end) }
+        ensures { option_map (λ s. from_to s.first s.end) result ≡ then_some (not (B.Bound.before end first)) (from_to first end) }
     {
         if end.precedes(first) {
             None
@@ -32,12 +32,14 @@ impl<B: Bound> Interval<B> {
         }
     }
 
+    /// The bound that it begins at.
     pub fn first(&self) -> B
         ensures { result ≡ self.now.first }
     {
         self.first
     }
 
+    /// The bound that it ends before.
     pub fn end(&self) -> B
         ensures { result ≡ self.now.end }
     {

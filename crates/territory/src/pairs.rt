@@ -1,12 +1,12 @@
 // Two territories together: a point of each.
-ghost use Rattle.std.specs.Prelude.{◌≡◌, ◌&&◌};
+ghost use Rattle.std.specs.Prelude.{◌&&◌};
 ghost use Rattle.territory.specs.Pairs.{both_told};
 ghost use Rattle.territory.specs.Laws.Paired.{both_same, pair_lawful};
 
 use crate::Territory;
 
 /// Holds two points together where each part holds its own.
-#[derive(Clone, Copy)]
+#[derive(Clone, Copy, Debug, PartialEq, Eq)]
 pub struct Pair<T, U> {
     pub first: T,
     pub second: U,

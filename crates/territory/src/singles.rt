@@ -1,15 +1,16 @@
 // One value: a territory of its own, up to an agreement that need not be equality.
 ghost use Rattle.std.specs.Prelude.{◌≡◌, Bool};
 ghost use Rattle.territory.specs.Meaning.{Equivalence};
-ghost use Rattle.territory.specs.Singles.{told_if};
+ghost use Rattle.std.specs.Bool.{then_some};
 ghost use Rattle.std.proofs.Common.{rules};
 
 use crate::Territory;
 
-/// A sameness of values that is lawful and need not be equality.
+/// A value with a sameness that is an equivalence and need not be equality.
 pub trait Agree: Copy {
     ghost agree: { Self → Self → Bool };
 
+    /// Whether the two are the same.
     fn agrees(self, other: Self) -> bool
         ensures { result ≡ agree self other };
 
@@ -17,7 +18,7 @@ pub trait Agree: Copy {
 }
 
 /// Holds the values that agree with one.
-#[derive(Clone, Copy)]
+#[derive(Clone, Copy, Debug, PartialEq, Eq)]
 pub struct Single<V> {
     pub value: V,
 }
@@ -29,7 +30,7 @@ impl<V: Agree> Territory for Single<V> {
 
     ghost same = { V.Agree.agree };
 
-    ghost common = { λ s t. told_if (V.Agree.agree s.value t.value) s.value };
+    ghost common = { λ s t. then_some (V.Agree.agree s.value t.value) s.value };
 
     ghost lawful = { Prim.search rules };
 

@@ -6,7 +6,7 @@ ghost use Rattle.territory.specs.Laws.Stretched.{stretch_lawful};
 use crate::{Bound, Territory};
 
 /// From the first bound up to, but without, the end bound. Equal bounds hold nothing.
-#[derive(Clone, Copy)]
+#[derive(Clone, Copy, Debug, PartialEq, Eq)]
 pub struct Stretch<B> {
     pub first: B,
     pub end: B,

@@ -12,9 +12,11 @@ pub trait Territory {
 
     ghost common: { Self → Self → Maybe Self.Point };
 
+    /// Whether the point is one of the set.
     fn holds(&self, point: Self::Point) -> bool
         ensures { result ≡ holds self.now point };
 
+    /// Whether two points are the same: sets hold both or neither.
     fn same(a: Self::Point, b: Self::Point) -> bool
         ensures { result ≡ same a b };
 

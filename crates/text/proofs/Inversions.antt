@@ -1,10 +1,7 @@
 -- What an answer says of the steps that led to it, and the steps of `?`.
 use Rattle.std.proofs.Common.{◌≡◌, Bool, true, false, cond, Some, None, Option, refl, ap}
-use Rattle.std.specs.Option.{option_map}
-use Rattle.text.specs.Nguids.{next}
-
-pub same_some : {A : Type 0} (v w : A) → Some v ≡ Some w → v ≡ w
-same_some v w e = cc
+use Rattle.std.specs.Option.{option_and_then, option_map}
+use Rattle.std.proofs.lemmas.Option.{option_and_then_some}
 
 pub none_some : {A C : Type 0} (v : A) → None ≡ Some v → C
 none_some v e = cc
@@ -17,13 +14,12 @@ pub mapped_apart : {A B : Type 0} (f : A → B) (o : Option A) (v : B) → optio
 mapped_apart f None v e = none_some v e
 mapped_apart f (Some a) v e = (a, refl, cc)
 
-pub next_apart : {A B : Type 0} (o : Option A) (f : A → Option B) (v : B) → next o f ≡ Some v → (a : A) × (o ≡ Some a) × (f a ≡ Some v)
-next_apart None f v e = none_some v e
-next_apart (Some a) f v e = (a, refl, e)
+pub and_then_apart : {A B : Type 0} (f : A → Option B) (o : Option A) (v : B) → option_and_then f o ≡ Some v → (a : A) × (o ≡ Some a) × (f a ≡ Some v)
+and_then_apart f o v e = option_and_then_some f o v e (λ a is told. (a, is, told))
 
 -- a step that goes on, and one that stops
-pub goes : {A B : Type 0} {o : Option A} {a : A} (f : A → Option B) → Some a ≡ o → f a ≡ next o f
-goes f e = ap (λ o. next o f) e
+pub goes : {A B : Type 0} {o : Option A} {a : A} (f : A → Option B) → Some a ≡ o → f a ≡ option_and_then f o
+goes f e = ap (option_and_then f) e
 
-pub stops : {A B : Type 0} {o : Option A} (f : A → Option B) → None ≡ o → None ≡ next o f
-stops f e = ap (λ o. next o f) e
+pub stops : {A B : Type 0} {o : Option A} (f : A → Option B) → None ≡ o → None ≡ option_and_then f o
+stops f e = ap (option_and_then f) e

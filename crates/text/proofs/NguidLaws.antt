@@ -1,6 +1,7 @@
 -- Reading NGUIDs answers exactly their form.
 use Rattle.std.proofs.Common.{◌≡◌, ℕ, ◌+◌, ◌<◌, Bool, true, eqb, leb, List, ◌++◌, length, get_or, take, drop, Some, sym, refl, ap, take-append-drop, ◌∙◌, subst, append_assoc, arith}
 use Rattle.std.specs.List.{All, position, position_or_len}
+use Rattle.std.specs.Option.{option_and_then}
 use Rattle.std.specs.Str.{bytes_eq}
 use Rattle.std.proofs.Math.Seq.{drop-append-add, drop-append_seam, get_or-append_seam, take-append_seam}
 use Rattle.std.proofs.lemmas.List.{drop_more, get_or_append_left, length-append}
@@ -11,9 +12,9 @@ use Rattle.std.proofs.lemmas.Option.{cond_some}
 use Rattle.std.proofs.lemmas.Slice.Eq.{bytes_eq-Decides}
 use Rattle.promise.specs.Exactly.{Exactly}
 use Rattle.text.proofs.ByteLaws.{agency_decides, local_decides}
-use Rattle.text.proofs.Inversions.{cond_apart, mapped_apart, next_apart}
+use Rattle.text.proofs.Inversions.{and_then_apart, cond_apart, mapped_apart}
 use Rattle.text.specs.Bytes.{IsLocalByte}
-use Rattle.text.specs.Nguids.{NguidParts, NguidText, after, colon, colon_split, has_form, if_formed, layer_text, next, nguid_front, nguid_text, read_nguid}
+use Rattle.text.specs.Nguids.{NguidParts, NguidText, after, colon, colon_split, has_form, if_formed, layer_text, nguid_front, nguid_text, read_nguid}
 use Rattle.text.specs.Widths.{nguid_width}
 use Rattle.text.specs.declared.nguid.Layer.{Layer}
 
@@ -64,10 +65,10 @@ sound : (layer : Layer) (text : List ℕ) (parts : NguidParts) → read_nguid la
 unfolding read_nguid
 sound layer text parts e =
     let short = cond_apart (leb (length text) nguid_width) _ parts e in
-    let formed = next_apart _ if_formed parts short.1 in
-    let split = next_apart _ colon_split formed.0 formed.1 in
-    let third = next_apart _ (after colon) split.0 split.1 in
-    let second = next_apart (after nguid_front text) (after (layer_text layer)) third.0 third.1 in
+    let formed = and_then_apart if_formed _ parts short.1 in
+    let split = and_then_apart colon_split _ formed.0 formed.1 in
+    let third = and_then_apart (after colon) _ split.0 split.1 in
+    let second = and_then_apart (after (layer_text layer)) (after nguid_front text) third.0 third.1 in
     let made = cond_some (has_form formed.0) formed.0 parts formed.2 in
     let tests = and_parts _ _ (subst (λ p. has_form p ≡ true) made.1 made.0) in
     record {
@@ -89,7 +90,7 @@ complete layer text parts form =
     and_from _ _
     (and_from _ _ (lt-ltb _ _ form.local_some) (lt-ltb _ _ form.agency_some))
     (and_from _ _ ((local_decides parts.local).1 form.local_bytes) ((agency_decides parts.agency).1 form.agency_bytes)) in
-    let steps : next (next (next (after nguid_front text) (after (layer_text layer))) (after colon)) colon_split ≡ Some parts =
+    let steps : option_and_then colon_split (option_and_then (after colon) (option_and_then (after (layer_text layer)) (after nguid_front text))) ≡ Some parts =
     rw (whole, after_complete, after_complete, after_complete) (split_complete parts.local parts.agency form.local_bytes) in
     rw (le-leb (length text) nguid_width form.within, steps, tests) refl
 

@@ -1,7 +1,7 @@
 -- NGUIDs: "urn:emergency:uid:gis:", a layer, a colon, a local identifier, a colon, an agency. Assumes nothing.
 use Rattle.std.specs.Prelude.{◌≡◌, ℕ, ◌+◌, ◌<◌, ◌≤◌, Bool, cond, ◌&&◌, List, ◌++◌, length, take, drop, Some, None, codes, Option, ◌==◌, nat_le, nat_lt}
 use Rattle.std.specs.List.{All, list_all, position}
-use Rattle.std.specs.Option.{option_map}
+use Rattle.std.specs.Option.{option_and_then, option_map}
 use Rattle.std.specs.Str.{bytes_eq}
 use Rattle.text.specs.Bytes.{IsAgencyByte, IsLocalByte, is_agency_byte, is_local_byte}
 use Rattle.text.specs.Widths.{nguid_width}
@@ -62,14 +62,9 @@ has_form parts =
 abbrev pub if_formed : NguidParts → Option NguidParts
 if_formed parts = cond (has_form parts) (Some parts) None
 
--- the next step, where there was an answer
-abbrev pub next : {A B : Type 0} → Option A → (A → Option B) → Option B
-next None f = None
-next (Some a) f = f a
-
 -- what follows the front, the layer and a colon, split at its first colon and well formed
 unfoldable pub read_nguid : Layer → List ℕ → Option NguidParts
 read_nguid layer text =
     cond (nat_le (length text) nguid_width)
-    (next (next (next (next (after nguid_front text) (after (layer_text layer))) (after colon)) colon_split) if_formed)
+    (option_and_then if_formed (option_and_then colon_split (option_and_then (after colon) (option_and_then (after (layer_text layer)) (after nguid_front text)))))
     None

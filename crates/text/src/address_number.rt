@@ -27,10 +27,7 @@ impl AddressNumber {
         ensures not_past { NotPast result }
         ensures reads_back { ReadsBack }
     {
-        if text.is_empty() || text.len() > MOST_DIGITS {
-            return None;
-        }
-        if text.len() > 1 && text[0] == b'0' {
+        if text.is_empty() || text.len() > MOST_DIGITS || matches!(text, [b'0', _, ..]) {
             return None;
         }
         digits_value(text).map(|value| AddressNumber { value })

@@ -12,14 +12,14 @@ pub fn same_bytes(a: &[u8], b: &[u8]) -> bool
     a == b
 }
 
-// Whether each byte is one that a plain text may have.
+/// Whether each byte is one that a plain text may have.
 pub(crate) fn is_printable(text: &[u8]) -> bool
     ensures { result ≡ list_all is_printable_byte text.now }
 {
     text.iter().all(|byte| matches!(byte, b' '..=b'~'))
 }
 
-// Whether each is one that a local identifier may have.
+/// Whether each is one that a local identifier may have.
 pub(crate) fn is_local(text: &[u8]) -> bool
     ensures { result ≡ list_all is_local_byte text.now }
 {
@@ -27,9 +27,9 @@ pub(crate) fn is_local(text: &[u8]) -> bool
         .all(|byte| byte.is_ascii_graphic() && *byte != b':')
 }
 
-// Whether each is one that an agency may have.
+/// Whether each is one that an agency may have.
 pub(crate) fn is_agency(text: &[u8]) -> bool
     ensures { result ≡ list_all is_agency_byte text.now }
 {
-    text.iter().all(|byte| byte.is_ascii_alphanumeric() || *byte == b'-' || *byte == b'.')
+    text.iter().all(|byte| byte.is_ascii_alphanumeric() || matches!(byte, b'-' | b'.'))
 }

@@ -7,6 +7,7 @@ use arrayvec::ArrayVec;
 use std::error::Error;
 use std::fmt;
 
+/// The most bytes that a full name has.
 pub(crate) const FULL_NAME_WIDTH: usize = 245;
 
 /// The elements of a street's name that are present, joined by one space.
@@ -16,7 +17,7 @@ pub struct FullName {
     ghost within: { length bytes.items ≤ full_name_width },
 }
 
-/// That a full name has no room for an element.
+/// An element that a full name has no room for.
 #[derive(Clone, Copy, Debug, PartialEq, Eq)]
 pub struct DoesNotFit;
 
@@ -74,6 +75,16 @@ impl FullName {
         } else {
             b" "
         }
+    }
+}
+
+impl Default for FullName {
+    ghost use Rattle.text.specs.FullNames.{name_of};
+
+    ghost is_default = { λ name. name_of name ≡ [] };
+
+    fn default() -> FullName {
+        FullName::new()
     }
 }
 

@@ -5,15 +5,16 @@ use Rattle.std.proofs.Math.Nat.{pow-le-pow_right}
 use Rattle.std.proofs.lemmas.List.{drop_all, drop_more, length-map}
 use Rattle.std.proofs.lemmas.Bool.{cond-true, eq-eqb, eqb-true}
 use Rattle.std.proofs.lemmas.Bool.Decides.{nat_tests}
+use Rattle.std.proofs.lemmas.Option.{same_Some}
 use Rattle.std.specs.Int.Digits.{number_from_digits_after, AllBelowBase}
+use Rattle.std.specs.Option.{option_and_then}
 use Rattle.promise.specs.Exactly.{Exactly}
-use Rattle.text.specs.Nguids.{next}
-use Rattle.text.proofs.Inversions.{cond_apart, next_apart, same_some}
+use Rattle.text.proofs.Inversions.{and_then_apart, cond_apart}
 use Rattle.numbering.specs.Hexadecimal.{HexText, digit_count, hex_after, hex_digit, hex_letter, hex_number}
 
 -- a loop's step and its end
 pub hex_more : (begun i : ℕ) (text : List ℕ) → i < length text
-    → hex_after begun (drop i text) ≡ next (hex_digit (slice_index text i)) (λ digit. hex_after (begun * 16 + digit) (drop (i + 1) text))
+    → hex_after begun (drop i text) ≡ option_and_then (λ digit. hex_after (begun * 16 + digit) (drop (i + 1) text)) (hex_digit (slice_index text i))
 unfolding hex_after
 hex_more begun i text h = ap (hex_after begun) (drop_more text i 0 h)
 
@@ -46,9 +47,9 @@ record Spelled (begun : ℕ) (text : List ℕ) (value : ℕ) : Type 0 where
 
 after_spells : (begun : ℕ) (text : List ℕ) (value : ℕ) → hex_after begun text ≡ Some value → Spelled begun text value
 unfolding hex_after
-after_spells begun [] value e = record { digits = []; below_sixteen = tt; spells = refl; is_value = sym (same_some begun value e) }
+after_spells begun [] value e = record { digits = []; below_sixteen = tt; spells = refl; is_value = sym (same_Some begun value e) }
 after_spells begun (byte ∷ text) value e =
-    let p = next_apart (hex_digit byte) (λ digit. hex_after (begun * 16 + digit) text) value e in
+    let p = and_then_apart (λ digit. hex_after (begun * 16 + digit) text) (hex_digit byte) value e in
     let digit = p.0 in
     let rest = after_spells (begun * 16 + digit) text value p.2 in
     let head = digit_spells byte digit p.1 in

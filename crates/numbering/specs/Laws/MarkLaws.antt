@@ -1,15 +1,18 @@
 -- What marks hold, and the texts that they are read from.
-use Rattle.std.specs.Prelude.{◌≡◌, ℕ, ◌+◌, ◌-◌, ◌/◌, ◌%◌, ◌^◌, ◌<◌, ◌≤◌, max, true, false, List, [], ◌∷◌, length, Some, None, ◌==◌, ◌≢◌, bit_and, nat_eq, nat_le, refl}
+use Rattle.std.specs.Prelude.{◌≡◌, ℕ, ◌+◌, ◌-◌, ◌/◌, ◌%◌, ◌^◌, ◌<◌, ◌≤◌, max, true, false, List, length, Some, None, Option, ◌==◌, ◌≢◌, bit_and, nat_eq, nat_le, refl}
 use Rattle.std.proofs.Common.{ap, subst, ◌∙◌, inl, inr, arith}
 use Rattle.std.specs.Int.Count.{count_trailing_zeros}
 use Rattle.std.proofs.lemmas.Bool.{cases_lt, eqb-true, le-leb, leb-true}
 use Rattle.std.proofs.lemmas.Bool.Decides.{nat_tests}
+use Rattle.std.proofs.lemmas.List.{nil_from_length}
+use Rattle.std.proofs.lemmas.Option.{cond_some}
 use Rattle.std.specs.Result.{result_err, result_ok}
 use Rattle.promise.specs.Exactly.{Exactly}
 use Rattle.text.specs.AddressNumber.{greatest_number, read_number}
 use Rattle.text.specs.declared.address_number.AddressNumber.{AddressNumber}
-use Rattle.text.proofs.Inversions.{cond_apart, next_apart, same_some}
+use Rattle.text.proofs.Inversions.{and_then_apart}
 use Rattle.text.proofs.NumberLaws.{number_exactly}
+use Rattle.territory.specs.declared.numberings.NumberingText.{NumberingText}
 use Rattle.numbering.specs.Hexadecimal.{HexText, hex_number}
 use Rattle.numbering.specs.Least.{Least, both_hold}
 use Rattle.numbering.specs.Marks.{FirstText, MarksFault, MarksTexts, bit_set, first_number, greatest_first, if_at_most, marks_from, marks_hold, marks_past, marks_reading}
@@ -80,24 +83,20 @@ module _ (m : Marks) (some : 0 < m.bits) (small : m.bits < 2 ^ 64) where
 first_exactly : (text : List ℕ) → Exactly (FirstText text) (first_number text)
 first_exactly text = record {
   sound = λ first e.
-      let read = next_apart (read_number text) if_at_most first e in
-      let early = cond_apart (nat_le read.0.value greatest_first) (Some read.0) first read.2 in
-      subst (FirstText text) (same_some read.0 first early.1)
+      let read = and_then_apart if_at_most (read_number text) first e in
+      let early = cond_some (nat_le read.0.value greatest_first) read.0 first read.2 in
+      subst (FirstText text) early.1
       (record { number_text = (number_exactly text).sound read.0 read.1; at_most = leb-true _ _ early.0 });
   complete = λ first form. rw ((number_exactly text).complete first form.number_text, le-leb _ _ form.at_most) refl;
 }
-
-empty_is : (text : List ℕ) → length text ≡ 0 → text ≡ []
-empty_is [] e = refl
-empty_is (byte ∷ rest) e = absurd (omega arith)
 
 module _ (first second third : List ℕ) where
   joins : (number : AddressNumber) (bits : ℕ) (marks : Marks) → FirstText first number → HexText second bits
       → marks_from third number bits ≡ Some marks → MarksTexts first second third marks
   joins number bits marks first_text bits_text e =
-      let empty = cond_apart (length third == 0) _ marks e in
-      subst (MarksTexts first second third) (same_some _ marks empty.1)
-      (record { first_text = first_text; bits_text = bits_text; third_empty = empty_is third (eqb-true _ _ empty.0) })
+      let empty = cond_some (length third == 0) _ marks e in
+      subst (MarksTexts first second third) empty.1
+      (record { first_text = first_text; bits_text = bits_text; third_empty = nil_from_length third (eqb-true _ _ empty.0) })
 
   splits : (marks : Marks) → MarksTexts first second third marks
       → (number : AddressNumber) × (bits : ℕ) × FirstText first number × HexText second bits × (marks_from third number bits ≡ Some marks)
@@ -105,3 +104,9 @@ module _ (first second third : List ℕ) where
 
   pub marks_told : Exactly (MarksTexts first second third) (result_ok (marks_reading first second third)) × MarksFault first second third (result_err (marks_reading first second third))
   marks_told = three_told (first_number first) (hex_number second) (marks_from third) (first_exactly first) (hex_exactly second) joins splits
+
+  pub exactly_told : (r : Option Marks) → r ≡ result_ok (marks_reading first second third) → Exactly (MarksTexts first second third) r
+  exactly_told r e = rw e marks_told.0
+
+  pub fault_told : (r : Option NumberingText) → r ≡ result_err (marks_reading first second third) → MarksFault first second third r
+  fault_told r e = rw e marks_told.1

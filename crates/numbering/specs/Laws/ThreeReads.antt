@@ -1,25 +1,15 @@
 -- Reading from three texts answers exactly what they say, or the first of them at fault. Assumes nothing.
 use Rattle.std.specs.Prelude.{◌≡◌, Some, None, Option, refl}
-use Rattle.std.proofs.Common.{sym, subst, ◌∙◌, arith}
+use Rattle.std.proofs.Common.{sym, ◌∙◌, arith}
 use Rattle.std.specs.Option.{ok_or}
 use Rattle.std.specs.Result.{result_err, result_ok}
 use Rattle.promise.specs.Exactly.{Exactly}
 use Rattle.promise.specs.Reasons.{FirstThatApplies}
+use Rattle.promise.proofs.Reasons.{refused_first, refused_none}
 use Rattle.territory.specs.declared.numberings.NumberingText.{NumberingText}
 use Rattle.territory.specs.declared.numberings.NumberingText.TheVariants.{First, Second, Third}
 use Rattle.text.proofs.Inversions.{none_some}
 use Rattle.numbering.specs.ThreeTexts.{AtFault, Earlier, FirstAtFault, read_three}
-
-module _ {R : Type 0} (Applies : R → Type 0) (Before : R → R → Type 0) where
-  told_first : (r : R) → Applies r → ((s : R) → Applies s → Before s r → ⊥) → FirstThatApplies Applies Before (Some r)
-  told_first r here before = record {
-    applies = λ q is. let same : r ≡ q = cc in subst Applies same here;
-    first = λ q s is there earlier. let same : q ≡ r = cc in before s there (subst (Before s) same earlier);
-    none = λ is. none_some r (sym is);
-  }
-
-  none_told : ((r : R) → Applies r → ⊥) → FirstThatApplies Applies Before None
-  none_told never = record { applies = λ r is. none_some r is; first = λ r s is. none_some r is; none = λ _. never }
 
 -- what was answered, step by step
 apart : {A B S : Type 0} (first : Option A) (second : Option B) (made : A → B → Option S) (s : S) → result_ok (read_three first second made) ≡ Some s
@@ -53,14 +43,14 @@ module _ {A B S : Type 0} {FirstSays : A → Type 0} {SecondSays : B → Type 0}
 
   by_made : (a : A) (b : B) → first ≡ Some a → second ≡ Some b → (answer : Option S) → made a b ≡ answer → FirstThatApplies Fault Earlier (result_err (ok_or answer Third))
   by_made a b is_first is_second None e =
-      told_first Fault Earlier Third (λ s says. none_some s (rw (is_first, is_second, e) at (three_exactly.complete s says)))
+      refused_first Fault Earlier Third (λ s says. none_some s (rw (is_first, is_second, e) at (three_exactly.complete s says)))
       (λ t. elim t as (NoneBefore Third) [
         | First ↦ λ fault _. fault a (first_read.sound a is_first)
         | Second ↦ λ fault _. fault b (second_read.sound b is_second)
         | Third ↦ λ _ earlier. omega arith
       ])
   by_made a b is_first is_second (Some s) e =
-      none_told Fault Earlier
+      refused_none Fault Earlier
       (λ t. elim t as (λ t. Fault t → ⊥) [
         | First ↦ λ fault. fault a (first_read.sound a is_first)
         | Second ↦ λ fault. fault b (second_read.sound b is_second)
@@ -69,7 +59,7 @@ module _ {A B S : Type 0} {FirstSays : A → Type 0} {SecondSays : B → Type 0}
 
   by_second : (a : A) → first ≡ Some a → (answer : Option B) → second ≡ answer → FirstThatApplies Fault Earlier (result_err (read_three (Some a) answer made))
   by_second a is None e =
-      told_first Fault Earlier Second (λ b says. none_some b (sym e ∙ second_read.complete b says))
+      refused_first Fault Earlier Second (λ b says. none_some b (sym e ∙ second_read.complete b says))
       (λ t. elim t as (NoneBefore Second) [
         | First ↦ λ fault _. fault a (first_read.sound a is)
         | Second ↦ λ _ earlier. omega arith
@@ -79,7 +69,7 @@ module _ {A B S : Type 0} {FirstSays : A → Type 0} {SecondSays : B → Type 0}
 
   by_first : (answer : Option A) → first ≡ answer → FirstThatApplies Fault Earlier (result_err (read_three answer second made))
   by_first None e =
-      told_first Fault Earlier First (λ a says. none_some a (sym e ∙ first_read.complete a says))
+      refused_first Fault Earlier First (λ a says. none_some a (sym e ∙ first_read.complete a says))
       (λ t. elim t as (NoneBefore First) [
         | First ↦ λ _ earlier. omega arith
         | Second ↦ λ _ earlier. omega arith

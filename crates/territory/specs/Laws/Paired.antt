@@ -1,7 +1,7 @@
 -- A pair of two territories is a territory. Assumes nothing.
-use Rattle.std.specs.Prelude.{◌≡◌, Bool, true, false, ◌&&◌, Some, None, Option, ◌≢◌, refl}
+use Rattle.std.specs.Prelude.{◌≡◌, Bool, ◌&&◌, Some, None, Option, ◌≢◌, refl}
 use Rattle.std.proofs.Common.{ap}
-use Rattle.std.proofs.lemmas.Bool.{true≢false, and_parts, and_from}
+use Rattle.std.proofs.lemmas.Bool.{and_parts, and_from}
 use Rattle.territory.specs.Meaning.{Equivalence, Lawful}
 use Rattle.territory.specs.Pairs.{both_told}
 use Rattle.territory.specs.declared.pairs.Pair.{Pair}
@@ -23,8 +23,8 @@ module _ {S P : Type 0} {holds : S → P → Bool} {same : P → P → Bool} {co
       }
 
   told : (a : Option P) (b : Option P') (p : P × P') → both_told a b ≡ Some p → (a ≡ Some p.0) × (b ≡ Some p.1)
-  told None b p e = absurd (let z : true ≡ false = cc in true≢false z)
-  told (Some x) None p e = absurd (let z : true ≡ false = cc in true≢false z)
+  told None b p e = cc
+  told (Some x) None p e = cc
   told (Some x) (Some y) p e = let q : (x, y) ≡ p = cc in (ap (λ r. Some r.0) q, ap (λ r. Some r.1) q)
 
   untold : (a : Option P) (b : Option P') → both_told a b ≡ None → (a ≢ None) → b ≡ None

@@ -2,6 +2,7 @@
 use Rattle.std.specs.Prelude.{◌≡◌, Bool, true, false, cond, Some, None, refl}
 use Rattle.std.proofs.Common.{sym, ◌∙◌}
 use Rattle.std.proofs.lemmas.Bool.{true≢false, and_parts, and_from, not-true, not_from_false, cond_both}
+use Rattle.std.proofs.lemmas.Option.{cond_some}
 use Rattle.territory.specs.Order.{Total}
 use Rattle.territory.specs.Meaning.{Lawful}
 use Rattle.territory.specs.Stretches.{lies_within, later, earlier, meeting}
@@ -29,10 +30,6 @@ module _ {B : Type 0} {before level : B → B → Bool} (o : Total before level)
   bounds : (first end v : B) → lies_within before first end v ≡ true → (before v first ≡ false) × (before v end ≡ true)
   bounds first end v h = let parts = and_parts _ _ h in (not-true _ parts.0, parts.1)
 
-  told : (b : Bool) (v p : B) → cond b (Some v) None ≡ Some p → (b ≡ true) × (v ≡ p)
-  told true v p e = (refl, cc)
-  told false v p e = absurd (let z : true ≡ false = cc in true≢false z)
-
   untold : (b : Bool) (v : B) → cond b (Some v) None ≡ None → b ≡ false
   untold true v e = cc
   untold false v e = refl
@@ -42,7 +39,7 @@ module _ {B : Type 0} {before level : B → B → Bool} (o : Total before level)
     equivalence = level_equivalence o;
     alike = λ s p q h. let a = (o.stands p q s.first h).0 in let b = (o.stands p q s.end h).0 in cc;
     met = λ s t p e.
-        let h = told _ _ p e in
+        let h = cond_some _ _ p e in
         let firsts = later_after s.first t.first in
         let ends = under_both _ s.end t.end h.0 in
         rw (← h.1) (within _ _ _ firsts.0 ends.0, within _ _ _ firsts.1 ends.1);

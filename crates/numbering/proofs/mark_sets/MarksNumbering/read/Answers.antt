@@ -1,8 +1,15 @@
-use Rattle.numbering.specs.Laws.MarkLaws.{marks_told}
+use Rattle.std.proofs.Common.{rules}
+use Rattle.numbering.specs.Laws.MarkLaws.{fault_told}
 use Rattle.numbering.proofs.mark_sets.MarksNumbering.read.Goals as goal
 
-pub returns : goal.returns
-returns c =
-    let told = c.read_marks.ensures in
-    let law = marks_told c.args.first.now c.args.bits.now c.args.rest.now in
-    record { value = told; exactly = rw told law.0; at_fault = rw told law.1 }
+pub returns-in_err-first-clause-at_fault : goal.returns-in_err-first-clause-at_fault
+returns-in_err-first-clause-at_fault c = fault_told c.args.first.now c.args.bits.now c.args.rest.now _ (search rules)
+
+pub returns-in_err-bits-clause-at_fault : goal.returns-in_err-bits-clause-at_fault
+returns-in_err-bits-clause-at_fault c = fault_told c.args.first.now c.args.bits.now c.args.rest.now _ (search rules)
+
+pub returns-then-not-is_empty-clause-at_fault : goal.returns-then-not-is_empty-clause-at_fault
+returns-then-not-is_empty-clause-at_fault c = fault_told c.args.first.now c.args.bits.now c.args.rest.now _ (search rules)
+
+pub returns-clause-at_fault : goal.returns-clause-at_fault
+returns-clause-at_fault c = fault_told c.args.first.now c.args.bits.now c.args.rest.now _ (search rules)

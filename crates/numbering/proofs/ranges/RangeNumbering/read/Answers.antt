@@ -1,8 +1,15 @@
-use Rattle.numbering.specs.Laws.RangeLaws.{range_told}
+use Rattle.std.proofs.Common.{rules}
+use Rattle.numbering.specs.Laws.RangeLaws.{fault_told}
 use Rattle.numbering.proofs.ranges.RangeNumbering.read.Goals as goal
 
-pub returns : goal.returns
-returns c =
-    let told = c.read_range.ensures in
-    let law = range_told c.args.from.now c.args.to.now c.args.parity.now in
-    record { value = told; exactly = rw told law.0; at_fault = rw told law.1 }
+pub returns-in_err-from-clause-at_fault : goal.returns-in_err-from-clause-at_fault
+returns-in_err-from-clause-at_fault c = fault_told c.args.from.now c.args.to.now c.args.parity.now _ (search rules)
+
+pub returns-in_err-to-clause-at_fault : goal.returns-in_err-to-clause-at_fault
+returns-in_err-to-clause-at_fault c = fault_told c.args.from.now c.args.to.now c.args.parity.now _ (search rules)
+
+pub returns-in_err-parity-clause-at_fault : goal.returns-in_err-parity-clause-at_fault
+returns-in_err-parity-clause-at_fault c = fault_told c.args.from.now c.args.to.now c.args.parity.now _ (search rules)
+
+pub returns-clause-at_fault : goal.returns-clause-at_fault
+returns-clause-at_fault c = fault_told c.args.from.now c.args.to.now c.args.parity.now _ (search rules)
