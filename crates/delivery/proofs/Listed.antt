@@ -1,6 +1,6 @@
--- The entries that a delivery still has to give: how many there may be, and when none is left. Assumes nothing.
-use Rattle.std.proofs.Common.{◌≡◌, ℕ, ◌+◌, ◌-◌, ◌≤◌, false, List, [], ◌∷◌, length, is_some, Some, None, Option, sym, ap, ◌∙◌, ⊎_elim, arith}
-use Rattle.std.proofs.lemmas.Bool.{true≢false, cases_lt}
+-- The entries that a delivery still has to give: how many there may be, and with which they begin. Assumes nothing.
+use Rattle.std.proofs.Common.{◌≡◌, ℕ, suc, ◌+◌, ◌-◌, ◌<◌, ◌≤◌, false, List, [], ◌∷◌, length, is_some, Some, None, Option, sym, ap, ◌∙◌, arith}
+use Rattle.std.proofs.lemmas.Bool.{true≢false}
 use Rattle.std.proofs.lemmas.Bool.Decides.{nat_tests}
 use Rattle.std.proofs.lemmas.List.FromFn.{length-range_with_len}
 use Rattle.std.specs.List.{filter_map, cons_option, range_with_len}
@@ -28,9 +28,10 @@ few_entries d =
 pub delivered : (d : Delivery) → GivesAll (contents d)
 delivered d = gives_all d.table.bytes.now d.table.count d.table.listed d.opened
 
-pub none_left : (d : Delivery) (n : ℕ) → entry_at (contents d) n ≡ None → entries_from (contents d) n ≡ []
-none_left d n none =
-    ⊎_elim
-    (λ listed. absurd (true≢false (sym ((delivered d).entries n listed) ∙ ap is_some none)))
-    (λ past. let left : d.table.count - n ≡ 0 = omega arith in ap (λ k. filter_map (entry_at (contents d)) (range_with_len n k)) left)
-    (cases_lt n d.table.count)
+-- the entries left begin with the next one
+pub one_left : (d : Delivery) (n : ℕ) → n < d.table.count → entries_from (contents d) n ≡ cons_option (entry_at (contents d) n) (entries_from (contents d) (n + 1))
+one_left d n below = let left : d.table.count - n ≡ suc (d.table.count - (n + 1)) = omega arith in ap (λ k. filter_map (entry_at (contents d)) (range_with_len n k)) left
+
+-- the next one is given
+pub some_left : (d : Delivery) (n : ℕ) → n < d.table.count → entry_at (contents d) n ≡ None → ⊥
+some_left d n below none = true≢false (sym ((delivered d).entries n below) ∙ ap is_some none)

@@ -6,6 +6,7 @@ use Rattle.std.specs.Option.{option_map, option_or}
 use Rattle.promise.specs.First.{first_below}
 use Rattle.promise.specs.Reasons.{ListedBefore}
 use Rattle.promise.proofs.Firsts.{first_found, none_found}
+use Rattle.promise.proofs.Reasons.{refused_first, refused_none}
 use Rattle.delivery.specs.Contents.{entry_count, table_end, kind_byte, body_end}
 use Rattle.delivery.specs.Kinds.{kind_numbered}
 use Rattle.delivery.specs.Opened.{GivesAll}
@@ -30,13 +31,6 @@ module _ (bytes : List ℕ) where
   not_sharing : (entry : ℕ) → shares_earlier bytes entry ≡ false → Applies bytes (SharedByte entry) → ⊥
   not_sharing entry e h = not_from_Decides _ (shares_decides bytes entry) e h.1
 
-  given : (r : DeliveryRefusal) → Applies bytes r → ((s : DeliveryRefusal) → Applies bytes s → ListedBefore refusal_number told_entry s r → ⊥) → RefusedRightly bytes (Some r)
-  given r holds firsts = record {
-    applies = λ t h. let same : r ≡ t = cc in subst (Applies bytes) same holds;
-    first = λ t s h a b. let same : t ≡ r = cc in firsts s a (subst (ListedBefore refusal_number told_entry s) same b);
-    none = λ h. cc;
-  }
-
   firsts_0 : (s : DeliveryRefusal) → ListedBefore refusal_number told_entry s NoTable → ⊥
   firsts_0 NoTable = ⊎_elim (λ h. omega arith) (λ h. omega arith)
   firsts_0 (BadEntry j) = ⊎_elim (λ h. omega arith) (λ h. omega arith)
@@ -59,18 +53,14 @@ module _ (bytes : List ℕ) where
     none_applies good apart (SharedByte j) a = not_sharing j (apart j a.0) a
 
   at : (lacks : Bool) (bad shares : Option ℕ) → no_table bytes ≡ lacks → first_below (bad_entry bytes) (entry_count bytes) ≡ bad → first_below (shares_earlier bytes) (entry_count bytes) ≡ shares → RefusedRightly bytes (cond lacks (Some NoTable) (option_or (option_map BadEntry bad) (option_map SharedByte shares)))
-  at true bad shares e f g = given NoTable ((table_decides bytes).0 e) (λ s _. firsts_0 s)
+  at true bad shares e f g = refused_first _ _ NoTable ((table_decides bytes).0 e) (λ s _. firsts_0 s)
   at false (Some i) shares e f g =
       let at_i = first_found _ _ i f in
-      given (BadEntry i) (omega (arith, at_i.below), (bad_decides bytes i).0 at_i.passes) (firsts_bad e i (λ j h. at_i.none_before j (omega arith) h))
+      refused_first _ _ (BadEntry i) (omega (arith, at_i.below), (bad_decides bytes i).0 at_i.passes) (firsts_bad e i (λ j h. at_i.none_before j (omega arith) h))
   at false None (Some i) e f g =
       let at_i = first_found _ _ i g in
-      given (SharedByte i) (omega (arith, at_i.below), (shares_decides bytes i).0 at_i.passes) (firsts_shared e i (none_found _ _ f) (λ j h. at_i.none_before j (omega arith) h))
-  at false None None e f g = record {
-    applies = λ r h. cc;
-    first = λ r s h. cc;
-    none = λ _. none_applies e (none_found _ _ f) (none_found _ _ g);
-  }
+      refused_first _ _ (SharedByte i) (omega (arith, at_i.below), (shares_decides bytes i).0 at_i.passes) (firsts_shared e i (none_found _ _ f) (λ j h. at_i.none_before j (omega arith) h))
+  at false None None e f g = refused_none _ _ (none_applies e (none_found _ _ f) (none_found _ _ g))
 
   pub refused_rightly : RefusedRightly bytes (refusal_of bytes)
   refused_rightly = at _ _ _ refl refl refl

@@ -39,7 +39,7 @@ entries_from c number = filter_map (entry_at c) (range_with_len number (c.count 
 
 -- the entries that an iterator has still to give
 abbrev pub entries_left : Entries → List Entry
-entries_left entries = entries_from (contents entries.delivery) entries.number
+entries_left entries = entries_from (contents entries.delivery) entries.numbers.start
 
 -- a body without its reference: its bytes, and their place in the delivery
 pub record Part : Type 0 where

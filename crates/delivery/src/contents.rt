@@ -7,6 +7,7 @@ ghost use Rattle.delivery.specs.Opening.{no_table};
 use crate::DeliveryRefusal;
 use territory::ByteSpan;
 
+/// The most bytes that a delivery may have.
 pub(crate) const MOST_BYTES: usize = 65535;
 
 const MOST_ENTRIES: usize = 4095;
@@ -16,7 +17,7 @@ const COUNT_WIDTH: usize = 2;
 const LINE_WIDTH: usize = 5;
 
 /// A delivery's table of contents: the bytes have space for the lines that they count.
-#[derive(Clone, Copy)]
+#[derive(Clone, Copy, Debug)]
 pub(crate) struct Table<'a> {
     pub(crate) bytes: &'a [u8],
     pub(crate) count: usize,

@@ -6,14 +6,14 @@ use crate::contents::Table;
 use crate::{DeliveryRefusal, Entries, Entry, Kind};
 
 /// A part of the delivery, with its place.
-#[derive(Clone, Copy)]
+#[derive(Clone, Copy, Debug, PartialEq, Eq)]
 pub struct Body<'a> {
     pub bytes: &'a [u8],
     pub place: usize,
 }
 
 /// An opened delivery: no reason to refuse it applies.
-#[derive(Clone, Copy)]
+#[derive(Clone, Copy, Debug)]
 pub struct Delivery<'a> {
     table: Table<'a>,
     ghost opened: { refusal_of table.bytes.now ≡ None },
@@ -71,7 +71,7 @@ impl<'a> Delivery<'a> {
     {
         Entries {
             delivery: *self,
-            number: 0,
+            numbers: 0..self.table.count,
         }
     }
 

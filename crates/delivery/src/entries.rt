@@ -1,11 +1,10 @@
 // The entries of a table of contents.
-ghost use Rattle.std.specs.Prelude.{Some};
-ghost use Rattle.std.specs.Iterator.{YieldsFirst, item_count};
-ghost use Rattle.delivery.specs.Opened.{entries_left};
+ghost use Rattle.std.specs.Prelude.{◌≡◌, Some};
 ghost use Rattle.delivery.specs.Texts.{entry_text};
 
 use crate::{Delivery, Kind};
 use std::fmt;
+use std::ops::Range;
 
 /// A line of the table: what the body describes, and where it lies.
 #[derive(Clone, Copy, Debug, PartialEq, Eq)]
@@ -24,23 +23,25 @@ impl fmt::Display for Entry {
 }
 
 /// Gives the entries of a delivery, in the order of their numbers.
-#[derive(Drop)]
+#[derive(Debug, Drop)]
 pub struct Entries<'a> {
     pub(crate) delivery: Delivery<'a>,
-    pub(crate) number: usize,
+    pub(crate) numbers: Range<usize>,
+    ghost ends: { numbers.end ≡ delivery.table.count },
 }
 
 impl Iterator for Entries<'_> {
+    ghost use Rattle.std.specs.Iterator.{YieldsFirst, item_count};
+    ghost use Rattle.delivery.specs.Opened.{entries_left};
+
     type Item = Entry;
 
     ghost next_gives = { YieldsFirst entries_left };
 
     ghost remaining = { item_count entries_left };
 
-    #[tactic(auto, using(crate::proofs::Listed::none_left))]
+    #[tactic(auto, using(crate::proofs::Listed::one_left, crate::proofs::Listed::some_left))]
     fn next(&mut self) -> Option<Entry> {
-        let entry = self.delivery.entry(self.number)?;
-        self.number += 1;
-        Some(entry)
+        self.delivery.entry(self.numbers.next()?)
     }
 }

@@ -1,13 +1,16 @@
 // The fields of a body: each a length byte and that many bytes.
-ghost use Rattle.std.specs.Prelude.{◌≡◌};
+ghost use Rattle.std.specs.Prelude.{◌≡◌, Some};
 ghost use Rattle.std.specs.Result.{result_map_both};
 ghost use Rattle.delivery.specs.Opened.{body_part};
 ghost use Rattle.delivery.specs.Fields.{field_part, field_from, left_over, past_field, place_in};
+ghost use Rattle.delivery.specs.Texts.{past_end_text};
 
 use crate::Body;
+use std::error::Error;
+use std::fmt;
 
 /// A field's bytes, as a part of the delivery, and the place of its length byte.
-#[derive(Clone, Copy)]
+#[derive(Clone, Copy, Debug, PartialEq, Eq)]
 pub struct Field<'a> {
     pub bytes: &'a [u8],
     pub place: usize,
@@ -20,8 +23,18 @@ pub struct FieldPastEnd {
     pub place: usize,
 }
 
+impl fmt::Display for FieldPastEnd {
+    ghost output = { λ past. Some (past_end_text past) };
+
+    fn fmt<W: fmt::Write>(&self, f: &mut fmt::Formatter<W>) -> fmt::Result {
+        write!(f, "a field passes the end of its body at {}", self.place)
+    }
+}
+
+impl Error for FieldPastEnd {}
+
 /// Hands out the fields of a body, one after the other.
-#[derive(Drop)]
+#[derive(Debug, Drop)]
 pub struct FieldReader<'a> {
     body: Body<'a>,
     at: usize,

@@ -1,11 +1,11 @@
 // The five kinds of body, and the bytes that stand for them in a table of contents.
 ghost use Rattle.std.specs.Prelude.{◌≡◌, Some};
-ghost use Rattle.std.specs.Option.{ok_or};
 ghost use Rattle.std.specs.Result.{result_ok};
 ghost use Rattle.promise.specs.Exactly.{Exactly};
-ghost use Rattle.delivery.specs.Kinds.{kind_number, kind_numbered};
-ghost use Rattle.delivery.specs.Texts.{kind_name};
+ghost use Rattle.delivery.specs.Kinds.{kind_number, kind_or_unknown};
+ghost use Rattle.delivery.specs.Texts.{kind_name, unknown_kind_text};
 
+use std::error::Error;
 use std::fmt;
 
 /// What a body describes.
@@ -33,10 +33,10 @@ impl From<Kind> for u8 {
 impl TryFrom<u8> for Kind {
     type Error = UnknownKind;
 
-    ghost try_from_gives = { λ number result. result ≡ ok_or (kind_numbered number) (record { 0 = number }) };
+    ghost try_from_gives = { λ number result. result ≡ kind_or_unknown number };
 
     fn try_from(number: u8) -> Result<Kind, UnknownKind>
-        ensures value { result ≡ ok_or (kind_numbered number) (record { 0 = number }) }
+        ensures value { result ≡ kind_or_unknown number }
         ensures exactly { Exactly (λ k. kind_number k ≡ number) (result_ok result) }
     {
         match number {
@@ -63,3 +63,13 @@ impl fmt::Display for Kind {
         })
     }
 }
+
+impl fmt::Display for UnknownKind {
+    ghost output = { λ unknown. Some (unknown_kind_text unknown) };
+
+    fn fmt<W: fmt::Write>(&self, f: &mut fmt::Formatter<W>) -> fmt::Result {
+        write!(f, "no kind has the number {}", self.0)
+    }
+}
+
+impl Error for UnknownKind {}

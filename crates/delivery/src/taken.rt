@@ -1,5 +1,5 @@
 // Which bytes of a delivery the bodies so far have taken.
-ghost use Rattle.std.specs.Prelude.{◌≡◌, ℕ, ◌<◌, ◌≤◌, false, Decides, slice_index_or};
+ghost use Rattle.std.specs.Prelude.{◌≡◌, ℕ, ◌≤◌, false, Decides, slice_index_or};
 ghost use Rattle.delivery.specs.Opening.{most_bytes};
 ghost use Rattle.delivery.specs.Taken.{Free, taken_also};
 
@@ -13,6 +13,7 @@ pub(crate) struct Taken {
 }
 
 impl Taken {
+    /// No byte is taken.
     pub(crate) fn none() -> Taken
         ensures { (b : ℕ) → slice_index_or result.marks b false ≡ false }
     {

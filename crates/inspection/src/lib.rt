@@ -16,10 +16,10 @@ fn list_entries(heap: Global, delivery: &Delivery) -> Result<String, AllocError>
 {
     let mut text = String::new(heap);
     for (number, entry) in delivery.entries().enumerate() {
-        write!(text, "entry {number}: {entry}\n")?;
+        writeln!(text, "entry {number}: {entry}")?;
     }
     let count = delivery.entry_count();
-    write!(text, "{count} entries\n")?;
+    writeln!(text, "{count} entries")?;
     Ok(text)
 }
 

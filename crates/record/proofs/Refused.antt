@@ -1,11 +1,12 @@
 -- The reason given is the first that applies. Assumes nothing.
-use Rattle.std.proofs.Common.{◌≡◌, ℕ, ◌+◌, ◌<◌, Bool, true, false, cond, Some, None, Decides, Option, sym, refl, ◌∙◌, subst, ⊎_elim, arith}
+use Rattle.std.proofs.Common.{◌≡◌, ℕ, ◌+◌, ◌<◌, Bool, true, false, cond, Some, None, Decides, Option, sym, refl, ◌∙◌, ⊎_elim, arith}
 use Rattle.std.proofs.lemmas.Bool.{true≢false}
 use Rattle.std.proofs.lemmas.List.Quantifiers.{position-Some}
 use Rattle.std.specs.List.{position}
 use Rattle.std.specs.Option.{option_map, option_or}
 use Rattle.promise.specs.Reasons.{ListedBefore}
 use Rattle.promise.proofs.Decided.{true_decides}
+use Rattle.promise.proofs.Reasons.{refused_first, refused_none}
 use Rattle.territory.specs.declared.numberings.Numbering.{Ghosts}
 use Rattle.text.specs.declared.nguid.Layer.TheVariants as layer
 use Rattle.delivery.specs.Fields.{place_in}
@@ -40,13 +41,6 @@ module _ {N P : Type 0} (m : Ghosts N P) (kind : Kind) (body : Part) (AtFault : 
     abbrev Holds : BodyRefusal → Type 0
     Holds = Applies AtFault NoLifetime kind body
 
-    given : (r : BodyRefusal) → Holds r → ((s : BodyRefusal) → Holds s → Earlier s r → ⊥) → Refused AtFault NoLifetime kind body (Some r)
-    given r holds firsts = record {
-      applies = λ t h. let same : r ≡ t = cc in subst Holds same holds;
-      first = λ t s h a b. let same : t ≡ r = cc in firsts s a (subst (Earlier s) same b);
-      none = λ h. cc;
-    }
-
     sound : (index : ℕ) → faulty m kind body.bytes (name_at kind index) ≡ false → AtFault (name_at kind index) → ⊥
     sound index e fault = true≢false (sym ((faults (name_at kind index)).1 fault) ∙ e)
 
@@ -71,16 +65,12 @@ module _ {N P : Type 0} (m : Ghosts N P) (kind : Kind) (body : Part) (AtFault : 
         none_applies e Lifetime a = true≢false (sym (short.1 a) ∙ e)
 
     at : (broken fault : Option ℕ) (late : Bool) → broken_at body 0 (field_count kind) ≡ broken → position (faulty m kind body.bytes) (layout kind) ≡ fault → no_lifetime kind body.bytes ≡ late → Refused AtFault NoLifetime kind body (option_or (option_map Broken broken) (option_or (option_map (fault_told body) fault) (cond late (Some Lifetime) None)))
-    at (Some p) fault late e f g = given (Broken p) ((breaks_exactly body (field_count kind)).sound p e) (λ s _. before_broken p s)
+    at (Some p) fault late e f g = refused_first _ _ (Broken p) ((breaks_exactly body (field_count kind)).sound p e) (λ s _. before_broken p s)
     at None (Some i) late e f g =
         let found = position-Some (faulty m kind body.bytes) (layout kind) i (Identifier layer.Road) f in
-        given (fault_told body i) (record { index = i; below = found.0; counted = refl; stands = refl; fault = (faults (name_at kind i)).0 found.1 }) (before_field e i (place_in body (field_start body.bytes i)) found.2)
-    at None None true e f g = given Lifetime (short.0 g) (before_lifetime e (none_passes (faulty m kind body.bytes) (Identifier layer.Road) (layout kind) f))
-    at None None false e f g = record {
-      applies = λ r h. cc;
-      first = λ r s h. cc;
-      none = λ _. none_applies e (none_passes (faulty m kind body.bytes) (Identifier layer.Road) (layout kind) f) g;
-    }
+        refused_first _ _ (fault_told body i) (record { index = i; below = found.0; counted = refl; stands = refl; fault = (faults (name_at kind i)).0 found.1 }) (before_field e i (place_in body (field_start body.bytes i)) found.2)
+    at None None true e f g = refused_first _ _ Lifetime (short.0 g) (before_lifetime e (none_passes (faulty m kind body.bytes) (Identifier layer.Road) (layout kind) f))
+    at None None false e f g = refused_none _ _ (none_applies e (none_passes (faulty m kind body.bytes) (Identifier layer.Road) (layout kind) f) g)
 
     refused : Refused AtFault NoLifetime kind body (refusal_of m kind body)
     unfolding refusal_of

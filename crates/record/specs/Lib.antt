@@ -10,3 +10,4 @@ pub mod Parts
 pub mod Passing
 pub mod Refusals
 pub mod Rules
+pub mod Texts

@@ -1,5 +1,4 @@
 // The kinds of bodies, as types: a checked body says by its type what it describes.
-ghost use Rattle.std.specs.Prelude.{◌≡◌};
 ghost use Rattle.delivery.specs.declared.kinds.Kind.{Kind as KindOf};
 ghost use Rattle.delivery.specs.declared.kinds.Kind.TheVariants.{Road, Alias, Point, RoadRetirement, PointRetirement};
 
@@ -9,22 +8,28 @@ use delivery::Kind;
 pub trait BodyKind {
     ghost KIND: { KindOf };
 
+    /// The kind that a table of contents lists the body by.
     const KIND: Kind;
 }
 
-#[derive(Clone, Copy)]
+/// A road: its name, what each side holds, and its lifetime.
+#[derive(Clone, Copy, Debug, PartialEq, Eq)]
 pub struct RoadBody;
 
-#[derive(Clone, Copy)]
+/// Another name of a road.
+#[derive(Clone, Copy, Debug, PartialEq, Eq)]
 pub struct AliasBody;
 
-#[derive(Clone, Copy)]
+/// An address point: its place on a road, and its lifetime.
+#[derive(Clone, Copy, Debug, PartialEq, Eq)]
 pub struct PointBody;
 
-#[derive(Clone, Copy)]
+/// That a road ends, and when.
+#[derive(Clone, Copy, Debug, PartialEq, Eq)]
 pub struct RoadRetirementBody;
 
-#[derive(Clone, Copy)]
+/// That an address point ends, and when.
+#[derive(Clone, Copy, Debug, PartialEq, Eq)]
 pub struct PointRetirementBody;
 
 impl BodyKind for RoadBody {

@@ -17,7 +17,7 @@ use crate::walking::{check_whole, place_at};
 use crate::{BodyRefusal, FieldName};
 use delivery::{Body, Kind};
 use instant::Instant;
-use territory::{Bound, Numbering};
+use territory::Numbering;
 
 /// The first reason for which the body is refused, if any.
 #[tactic(auto, using(crate::proofs::Refused::refused_rightly, crate::proofs::Refused::refused_by_form, crate::proofs::Passed::accepted_whole))]
@@ -30,7 +30,8 @@ pub fn refusal<N: Numbering>(kind: Kind, body: Body) -> Option<BodyRefusal>
     Described { kind, body }.check::<N>().err()
 }
 
-impl<'a> Described<'a> {
+impl Described<'_> {
+    /// The first reason that applies: the walk, then the fields, then the lifetime.
     #[tactic(auto, unfolding(crate::specs::Checking::refusal_of))]
     pub(crate) fn check<N: Numbering>(self) -> Result<(), BodyRefusal>
         ensures { result_err result ≡ refusal_of N.Numbering.own self.entry.kind (body_part self.entry.body) }
@@ -67,7 +68,7 @@ impl<'a> Described<'a> {
         let effective = Instant::read_effective(self.text(FieldName::Effective));
         let expire = Instant::read_expire(self.text(FieldName::Expire));
         match (effective, expire) {
-            (Some(first), Some(end)) if !first.precedes(end) => Err(BodyRefusal::Lifetime),
+            (Some(first), Some(end)) if first >= end => Err(BodyRefusal::Lifetime),
             _ => Ok(()),
         }
     }

@@ -14,7 +14,7 @@ pub(crate) struct Described<'a> {
 }
 
 impl<'a> Described<'a> {
-    // Empty where the body has no such field.
+    /// The text of a field; empty where the body has no such field.
     pub(crate) fn text<F: FieldKey>(self, field: F) -> &'a [u8]
         ensures { result.now ≡ text_given self.entry.body.bytes.now (F.index self.entry.kind field) }
     {

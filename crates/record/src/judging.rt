@@ -8,7 +8,8 @@ use instant::Instant;
 use territory::{Numbering, NumberingText};
 use text::{Layer, Nguid};
 
-impl<'a> Described<'a> {
+impl Described<'_> {
+    /// Whether the field of the name is at fault.
     #[tactic(auto, unfolding(crate::specs::Judging::faulty))]
     pub(crate) fn is_faulty<N: Numbering>(self, name: FieldName) -> bool
         ensures { result ≡ faulty N.Numbering.own self.entry.kind self.entry.body.bytes.now name }
@@ -27,6 +28,7 @@ impl<'a> Described<'a> {
         }
     }
 
+    /// The numbering of a side, or the first of its texts at fault.
     pub(crate) fn numbering<N: Numbering>(self, side: Side) -> Result<N, NumberingText>
         ensures { result ≡ side_reading N.Numbering.own self.entry.kind self.entry.body.bytes.now side }
     {
@@ -42,7 +44,7 @@ impl<'a> Described<'a> {
 fn is_faulty_text(name: FieldName, text: &[u8]) -> bool
     ensures { result ≡ faulty_text name text.now }
 {
-    name.is_required() && text.is_empty() || !has_form(name, text)
+    (name.is_required() && text.is_empty()) || !has_form(name, text)
 }
 
 fn has_form(name: FieldName, text: &[u8]) -> bool

@@ -77,6 +77,7 @@ const POINT_RETIREMENT: [FieldName; 2] = [
     FieldName::Retirement,
 ];
 
+/// The fields that a body of the kind has, in their order.
 pub(crate) fn layout(kind: Kind) -> &'static [FieldName]
     ensures { result.now ≡ layout kind }
 {

@@ -1,5 +1,5 @@
 // Bodies that passed the checks of their kind.
-ghost use Rattle.std.specs.Prelude.{◌≡◌, ◌^◌, ◌<◌, None, OnOk};
+ghost use Rattle.std.specs.Prelude.{◌≡◌, None, OnOk};
 ghost use Rattle.std.specs.Result.{result_err};
 ghost use Rattle.instant.specs.Reading.{instant_in};
 ghost use Rattle.delivery.specs.Opened.{body_part};
@@ -32,7 +32,7 @@ pub struct Checked<'a, K: BodyKind> {
 
 /// Checks a body of the kind, and refuses it with the first reason that applies.
 #[tactic(auto, using(crate::proofs::Refused::refused_rightly, crate::proofs::Refused::refused_by_form, crate::proofs::Passed::accepted_whole, crate::proofs::Passed::passes))]
-pub fn check<'a, N: Numbering, K: BodyKind>(body: Body<'a>) -> Result<Checked<'a, K>, BodyRefusal>
+pub fn check<N: Numbering, K: BodyKind>(body: Body<'_>) -> Result<Checked<'_, K>, BodyRefusal>
     ensures value { accepted_part (λ c. body_part c.body) result ≡ passing N.Numbering.own K.BodyKind.KIND (body_part body.entry) }
     ensures rightly { RefusedRightly N.Numbering.own K.BodyKind.KIND (body_part body.entry) (result_err result) }
     ensures formed { RefusedByForm N.Numbering.own K.BodyKind.KIND (body_part body.entry) (result_err result) }
@@ -88,7 +88,7 @@ impl<'a, K: BodyKind> Checked<'a, K> {
     }
 }
 
-impl<'a> Checked<'a, RoadBody> {
+impl Checked<'_, RoadBody> {
     /// The numbering of a side.
     #[tactic(auto, using(crate::proofs::NamedReadings::reading_named))]
     pub fn numbering<N: Numbering>(&self, side: Side) -> Result<N, NumberingText>
@@ -100,7 +100,7 @@ impl<'a> Checked<'a, RoadBody> {
     }
 }
 
-impl<'a> Checked<'a, PointBody> {
+impl Checked<'_, PointBody> {
     /// The place of the point.
     #[tactic(auto, using(crate::proofs::NamedReadings::place_named))]
     pub fn place<N: Numbering>(&self) -> Option<N::Point>

@@ -1,9 +1,12 @@
 // Why a body is refused.
-ghost use Rattle.std.specs.Prelude.{◌≡◌};
+ghost use Rattle.std.specs.Prelude.{◌≡◌, Some};
 ghost use Rattle.record.specs.Refusals.{refusal_number};
+ghost use Rattle.record.specs.Texts.{refusal_text};
 ghost use Rattle.record.specs.declared.refusals.BodyRefusal.TheVariants.{Broken};
 
 use delivery::FieldPastEnd;
+use std::error::Error;
+use std::fmt;
 
 /// The reasons for which a body is refused, in the order in which they are looked for.
 #[derive(Clone, Copy, Debug, PartialEq, Eq)]
@@ -28,6 +31,23 @@ impl BodyRefusal {
         }
     }
 }
+
+impl fmt::Display for BodyRefusal {
+    ghost output = { λ refusal. Some (refusal_text refusal) };
+
+    fn fmt<W: fmt::Write>(&self, f: &mut fmt::Formatter<W>) -> fmt::Result {
+        let reason = self.number();
+        match self {
+            BodyRefusal::Broken(place) => write!(f, "body refused {reason} {place}"),
+            BodyRefusal::Field { number, place } => {
+                write!(f, "body refused {reason} {number} {place}")
+            }
+            BodyRefusal::Lifetime => write!(f, "body refused {reason}"),
+        }
+    }
+}
+
+impl Error for BodyRefusal {}
 
 impl From<FieldPastEnd> for BodyRefusal {
     ghost from_gives = { λ past refusal. refusal ≡ Broken past.place };

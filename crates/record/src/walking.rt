@@ -10,8 +10,9 @@ ghost use Rattle.record.specs.declared.refusals.BodyRefusal.TheVariants.{Broken}
 use crate::BodyRefusal;
 use delivery::{Body, Field, FieldPastEnd, FieldReader};
 
+/// A field by its number, from 0. Fails where the walk to it, or it, passes the body's end.
 #[tactic(auto, using(crate::proofs::Walks::start_first))]
-pub(crate) fn field_at<'a>(body: Body<'a>, index: usize) -> Result<Field<'a>, FieldPastEnd>
+pub(crate) fn field_at(body: Body<'_>, index: usize) -> Result<Field<'_>, FieldPastEnd>
     ensures { result_map_both field_part (λ past. past.place) result ≡ field_of (body_part body.entry) index }
 {
     let mut reader = FieldReader::new(body);
@@ -21,8 +22,8 @@ pub(crate) fn field_at<'a>(body: Body<'a>, index: usize) -> Result<Field<'a>, Fi
     reader.field()
 }
 
-// Empty where the body has no such field.
-pub(crate) fn text_at<'a>(body: Body<'a>, index: usize) -> &'a [u8]
+/// The text of a field; empty where the body has no such field.
+pub(crate) fn text_at(body: Body<'_>, index: usize) -> &[u8]
     ensures { result.now ≡ field_text body.entry.bytes.now index }
 {
     match field_at(body, index) {
@@ -31,7 +32,7 @@ pub(crate) fn text_at<'a>(body: Body<'a>, index: usize) -> &'a [u8]
     }
 }
 
-// The place of a field's length byte, or of the one that the walk does not pass.
+/// The place of a field's length byte, or of the one that the walk does not pass.
 pub(crate) fn place_at(body: Body, index: usize) -> usize
     ensures { result ≡ place_in (body_part body.entry) (field_start body.entry.bytes.now index) }
 {
@@ -41,7 +42,7 @@ pub(crate) fn place_at(body: Body, index: usize) -> usize
     }
 }
 
-// That a body is so many fields and nothing else.
+/// Refuses a body that is not so many fields and nothing else.
 #[tactic(auto, using(crate::proofs::Walks::ends))]
 pub(crate) fn check_whole(body: Body, count: usize) -> Result<(), BodyRefusal>
     ensures { result_err result ≡ option_map Broken (broken_at (body_part body.entry) 0 count) }

@@ -10,7 +10,7 @@ use crate::{BodyKind, FieldName};
 use instant::{Instant, Lifetime};
 use text::{FullName, TextField};
 
-impl<'a, K: BodyKind> Checked<'a, K> {
+impl<K: BodyKind> Checked<'_, K> {
     /// The full name of the street.
     pub fn full_name(&self) -> Option<FullName>
         ensures { option_map name_of result ≡ full_name (elements_of K.BodyKind.KIND self.now.body.bytes.now) }
