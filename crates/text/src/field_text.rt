@@ -1,21 +1,10 @@
 // The texts of plain fields: printable, within a width, and for the directionals one of eight words.
 ghost use Rattle.std.specs.Prelude.{◌≡◌, Decides};
-ghost use Rattle.text.specs.FieldText.{FieldText, is_directed, is_directional, is_field_text, is_plain_text};
+ghost use Rattle.text.specs.FieldText.{FieldText, directions, is_directed, is_directional, is_field_text, is_plain_text, one_of};
 ghost use Rattle.text.specs.Widths.{width_of};
 
 use crate::bytes::is_printable;
 use crate::full_name::FULL_NAME_WIDTH;
-
-const DIRECTIONS: [&[u8]; 8] = [
-    b"North",
-    b"South",
-    b"East",
-    b"West",
-    b"Northeast",
-    b"Northwest",
-    b"Southeast",
-    b"Southwest",
-];
 
 /// A field that holds plain text.
 #[derive(Clone, Copy, Debug, PartialEq, Eq)]
@@ -69,11 +58,10 @@ impl TextField {
     }
 
     // A directional is missing, or one of the eight words.
-    #[tactic(auto, unfolding(crate::specs::FieldText::directions, crate::specs::Bytes::same_bytes))]
     fn is_directed(self, text: &[u8]) -> bool
         ensures { result ≡ is_directed self text.now }
     {
-        !self.is_directional() || text.is_empty() || DIRECTIONS.contains(&text)
+        !self.is_directional() || text.is_empty() || is_direction(text)
     }
 
     fn is_directional(self) -> bool
@@ -81,6 +69,23 @@ impl TextField {
     {
         matches!(self, TextField::PreDirectional | TextField::PostDirectional)
     }
+}
+
+#[tactic(auto, unfolding(crate::specs::FieldText::directions, crate::specs::Bytes::same_bytes))]
+fn is_direction(text: &[u8]) -> bool
+    ensures { result ≡ one_of directions text.now }
+{
+    matches!(
+        text,
+        b"North"
+            | b"South"
+            | b"East"
+            | b"West"
+            | b"Northeast"
+            | b"Northwest"
+            | b"Southeast"
+            | b"Southwest"
+    )
 }
 
 fn is_plain_text(width: usize, text: &[u8]) -> bool
