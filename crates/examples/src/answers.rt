@@ -4,15 +4,29 @@ use crate::readings::Reading;
 use crate::tables::Texts;
 use instant::{Instant, Lifetime};
 use numbering::{Marks, Range};
+use std::alloc::{AllocError, Global};
 use territory::Territory;
 use text::{AddressNumber, FullName, Layer, Nguid, TextField};
 
-pub(crate) fn answer(kind: &str, texts: Texts) -> Reading {
-    match kind {
+pub(crate) fn answer(heap: Global, kind: &str, texts: Texts) -> Result<Reading, AllocError> {
+    Ok(match kind {
+        "name" => full_name(heap, texts)?.map_or(Reading::Refused, Reading::Name),
         "range" => numberings::read(texts).map_or_else(Reading::RefusedAt, Reading::Range),
         "marks" => numberings::read(texts).map_or_else(Reading::RefusedAt, Reading::Marks),
         _ => read(kind, texts).unwrap_or(Reading::Refused),
+    })
+}
+
+// Each byte of the name is a character of its own.
+fn full_name(heap: Global, texts: Texts) -> Result<Option<String>, AllocError> {
+    let Some(name) = FullName::of(texts.all()) else {
+        return Ok(None);
+    };
+    let mut text = String::new(heap);
+    for byte in name.as_bytes() {
+        text.push(char::from(*byte))?;
     }
+    Ok(Some(text))
 }
 
 fn read(kind: &str, texts: Texts) -> Option<Reading> {
@@ -23,7 +37,6 @@ fn read(kind: &str, texts: Texts) -> Option<Reading> {
         "point" => identifier(Layer::AddressPoint, text),
         "alias" => identifier(Layer::Alias, text),
         "number" => AddressNumber::read(text).map(Reading::Number),
-        "name" => FullName::of(texts.all()).map(Reading::Name),
         "lifetimes" => meeting(texts),
         "range holds" => numberings::holds::<Range>(texts),
         "range meets" => numberings::meets::<Range>(texts),

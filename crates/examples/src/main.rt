@@ -35,7 +35,7 @@ fn run_example(rt: &HostRuntime, example: &Example, tally: &mut Tally) -> anyhow
     let kind = example.kind;
     let shown = example.shown;
     let expected = example.expected;
-    let read = format!(in rt.alloc(); "{}", answer(kind, example.texts()))?;
+    let read = format!(in rt.alloc(); "{}", answer(rt.alloc(), kind, example.texts())?)?;
     let agrees = read.as_str() == expected;
     tally.count(agrees);
     let verdict = if agrees { "agrees" } else { "DIFFERS" };

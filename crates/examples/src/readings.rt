@@ -3,7 +3,7 @@ use arrayvec::ArrayVec;
 use numbering::{Marks, Range};
 use std::fmt;
 use territory::{NumberingText, PLACE_WIDTH};
-use text::{AddressNumber, FullName};
+use text::AddressNumber;
 
 #[derive(Drop)]
 pub(crate) enum Reading {
@@ -14,7 +14,7 @@ pub(crate) enum Reading {
     Number(AddressNumber),
     // The lengths of its parts.
     Identifier { local: usize, agency: usize },
-    Name(FullName),
+    Name(String),
     Range(Range),
     Marks(Marks),
     Holds(bool),
@@ -34,7 +34,7 @@ impl fmt::Display for Reading {
             Reading::Identifier { local, agency } => {
                 write!(f, "local of {local} bytes, agency of {agency}")
             }
-            Reading::Name(name) => write_bytes(f, name.as_bytes()),
+            Reading::Name(name) => f.write_str(name.as_str()),
             Reading::Range(range) => write!(f, "{} to {}", range.from, range.to),
             Reading::Marks(marks) => {
                 write!(f, "{} from {}", marks.bits.count_ones(), marks.first)
