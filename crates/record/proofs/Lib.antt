@@ -2,9 +2,11 @@ pub mod Judged
 pub mod Labels
 pub mod Laying
 pub mod LeftOver
+pub mod Lifetimes
 pub mod NameEquality
 pub mod NamedReadings
 pub mod NamedTexts
+pub mod NumberingTexts
 pub mod Passed
 pub mod Positions
 pub mod Refused

@@ -1,11 +1,16 @@
--- Each name tells the text at its own place in the layout. Assumes nothing.
-use Rattle.std.proofs.Common.{◌≡◌, ℕ, zero, suc, Bool, true, false, ◌&&◌, eqb, List, Some, None, Decides, Option, refl, ap, arith}
+-- Each name stands, and tells the text, at its own place in the layout. Assumes nothing.
+use Rattle.std.proofs.Common.{◌≡◌, ℕ, zero, suc, ◌<◌, Bool, true, false, ◌&&◌, eqb, List, length, get_or, Some, None, Decides, Option, sym, refl, ap, subst, arith}
+use Rattle.std.specs.List.{enumerate_from}
 use Rattle.std.proofs.lemmas.Bool.Decides.{Decides-below_and, nat_tests}
+use Rattle.text.specs.declared.nguid.Layer.TheVariants as layer
 use Rattle.delivery.specs.declared.kinds.Kind.{Kind}
 use Rattle.delivery.specs.declared.kinds.Kind.TheVariants.{Road, Alias, Point, RoadRetirement, PointRetirement}
 use Rattle.record.specs.Layouts.{field_count, layout}
-use Rattle.record.specs.Named.{index_in, name_at, text_given, NamesTell}
+use Rattle.record.specs.Named.{index_in, name_at, text_given, NamesTell, StandsAt}
 use Rattle.record.specs.Names.{same_name}
+use Rattle.record.specs.declared.field_names.FieldName.{FieldName}
+use Rattle.record.specs.declared.field_names.FieldName.TheVariants.{Identifier}
+use Rattle.record.proofs.Positions.{numbered_at}
 
 is_at : Option ℕ → ℕ → Bool
 is_at None index = false
@@ -28,8 +33,17 @@ none_twice Point = refl
 none_twice RoadRetirement = refl
 none_twice PointRetirement = refl
 
-pub names_tell : (kind : Kind) (body : List ℕ) → NamesTell kind body
+pub each_stands : (kind : Kind) (index : ℕ) → index < field_count kind → StandsAt kind (name_at kind index) index
 unfolding all_found
-names_tell kind body index below =
-    let found = Decides-below_and (λ n. is_at (index_in (layout kind) (name_at kind n)) n) (λ n. index_in (layout kind) (name_at kind n) ≡ Some n) (all_found kind) (λ n. is_at_decides _ n) refl (λ _. refl) (field_count kind) in
-    ap (text_given body) (found.0 (none_twice kind) index below)
+each_stands kind index below =
+    let found = Decides-below_and (λ n. is_at (index_in (layout kind) (name_at kind n)) n) (λ n. StandsAt kind (name_at kind n) n) (all_found kind) (λ n. is_at_decides _ n) refl (λ _. refl) (field_count kind) in
+    found.0 (none_twice kind) index below
+
+-- a number and its name, as a walk over the layout hands them out
+pub pair_stands : (kind : Kind) (name : FieldName) (index k : ℕ) → k < length (enumerate_from 0 (layout kind)) → (index, name) ≡ get_or (enumerate_from 0 (layout kind)) k (index, name) → StandsAt kind name index
+pair_stands kind name index k below e =
+    let pair = numbered_at (layout kind) (Identifier layer.Road) k index name below e in
+    subst (λ n. StandsAt kind n index) (sym pair.1) (each_stands kind index pair.0)
+
+pub names_tell : (kind : Kind) (body : List ℕ) → NamesTell kind body
+names_tell kind body index below = ap (text_given body) (each_stands kind index below)

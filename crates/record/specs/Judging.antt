@@ -32,6 +32,12 @@ has_form Retirement text = is_some (instant_in text)
 abbrev pub faulty_text : FieldName → List ℕ → Bool
 faulty_text name text = (is_required name && length text == 0) || not (has_form name text)
 
+-- how many texts of a numbering stand before it
+abbrev pub ordinal : NumberingText → ℕ
+ordinal First = 0
+ordinal Second = 1
+ordinal Third = 2
+
 -- a reading tells the text to be at fault
 abbrev pub blames : {N : Type 0} → Result N NumberingText → NumberingText → Bool
 blames (Ok numbering) which = false

@@ -17,6 +17,10 @@ name_at kind index = slice_index_or (layout kind) index (Identifier layer.Road)
 unfoldable pub index_in : List FieldName → FieldName → Option ℕ
 index_in names name = position (same_name name) names
 
+-- the kind has a field of the name, at the number in its layout
+abbrev pub StandsAt : Kind → FieldName → ℕ → Type 0
+StandsAt kind name index = index_in (layout kind) name ≡ Some index
+
 abbrev pub text_given : List ℕ → Option ℕ → List ℕ
 text_given body None = []
 text_given body (Some index) = field_text body index

@@ -8,7 +8,9 @@ ghost use Rattle.record.specs.Forms.{RefusedByForm};
 ghost use Rattle.record.specs.Judging.{faulty};
 ghost use Rattle.record.specs.Laid.{Laid};
 ghost use Rattle.record.specs.Layouts.{field_count, layout};
+ghost use Rattle.record.specs.Named.{index_in};
 ghost use Rattle.record.specs.Rules.{RefusedRightly, fields_of};
+ghost use Rattle.record.specs.declared.field_names.FieldName.TheVariants.{Effective};
 ghost use Rattle.record.specs.declared.refusals.BodyRefusal.TheVariants.{Lifetime};
 
 use crate::described::Described;
@@ -59,17 +61,34 @@ impl Described<'_> {
     {
         layout(self.kind)
             .iter()
-            .position(|name| self.is_faulty::<N>(*name))
+            .enumerate()
+            .position(|(index, name)| self.is_faulty::<N>(*name, index))
     }
 
+    #[tactic(auto, using(crate::proofs::Lifetimes::lifetime_told))]
     fn check_lifetime(self) -> Result<(), BodyRefusal>
         ensures { result_err result ≡ cond (no_lifetime self.entry.kind self.entry.body.bytes.now) (Some Lifetime) None }
     {
-        let effective = Instant::read_effective(self.text(FieldName::Effective));
-        let expire = Instant::read_expire(self.text(FieldName::Expire));
+        let Some(index) = self.lifetime_field() else {
+            return Ok(());
+        };
+        let effective = Instant::read_effective(self.text(index));
+        let expire = Instant::read_expire(self.text(index + 1));
         match (effective, expire) {
             (Some(first), Some(end)) if first >= end => Err(BodyRefusal::Lifetime),
             _ => Ok(()),
+        }
+    }
+
+    // Where the Effective stands, which the Expire follows, if the kind has them: at the end of its layout.
+    #[tactic(auto, unfolding(crate::specs::Named::index_in, crate::specs::Names::same_name))]
+    fn lifetime_field(self) -> Option<usize>
+        ensures value { result ≡ index_in (layout self.entry.kind) Effective }
+        ensures low { IfSome result (λ index. index < field_count self.entry.kind) }
+    {
+        match layout(self.kind) {
+            [before @ .., FieldName::Effective, FieldName::Expire] => Some(before.len()),
+            _ => None,
         }
     }
 }

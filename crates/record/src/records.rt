@@ -14,7 +14,7 @@ ghost use Rattle.record.specs.Passing.{accepted_part, passing, LeftToNumbering, 
 ghost use Rattle.record.specs.Rules.{RefusedRightly, fields_of};
 
 use crate::described::Described;
-use crate::{BodyKind, BodyRefusal, FieldKey, FieldName, PointBody, RoadBody, Side};
+use crate::{BodyKind, BodyRefusal, FieldKey, PointBody, RoadBody, Side};
 use delivery::Body;
 use instant::Instant;
 use std::marker::PhantomData;
@@ -108,6 +108,8 @@ impl Checked<'_, PointBody> {
         ensures value { result ≡ N.Numbering.place (field_text self.now.body.bytes.now place_field) }
         ensures named { result ≡ place_of N.Numbering.own self.now.body.bytes.now }
     {
-        N::read_place(self.text(FieldName::Place))
+        N::read_place(self.text(PLACE_FIELD))
     }
 }
+
+const PLACE_FIELD: usize = 13;
