@@ -2,6 +2,7 @@
 use Rattle.std.proofs.Common.{◌≡◌, ℕ, zero, suc, ◌<◌, Bool, true, false, ◌&&◌, eqb, List, length, get_or, Some, None, Decides, Option, sym, refl, ap, subst, arith}
 use Rattle.std.specs.List.{enumerate_from}
 use Rattle.std.proofs.lemmas.Bool.Decides.{Decides-below_and, nat_tests}
+use Rattle.std.proofs.lemmas.List.Quantifiers.{position-Some}
 use Rattle.text.specs.declared.nguid.Layer.TheVariants as layer
 use Rattle.delivery.specs.declared.kinds.Kind.{Kind}
 use Rattle.delivery.specs.declared.kinds.Kind.TheVariants.{Road, Alias, Point, RoadRetirement, PointRetirement}
@@ -44,6 +45,15 @@ pub pair_stands : (kind : Kind) (name : FieldName) (index k : ℕ) → k < lengt
 pair_stands kind name index k below e =
     let pair = numbered_at (layout kind) (Identifier layer.Road) k index name below e in
     subst (λ n. StandsAt kind n index) (sym pair.1) (each_stands kind index pair.0)
+
+few_fields : (kind : Kind) → field_count kind < 25
+few_fields kind = grind arith
+
+pub stands_low : (kind : Kind) (name : FieldName) (index : ℕ) → StandsAt kind name index → index < 25
+unfolding index_in
+stands_low kind name index e =
+    let below = (position-Some (same_name name) (layout kind) index (Identifier layer.Road) e).0 in
+    omega (arith, few_fields kind)
 
 pub names_tell : (kind : Kind) (body : List ℕ) → NamesTell kind body
 names_tell kind body index below = ap (text_given body) (each_stands kind index below)

@@ -1,29 +1,17 @@
 -- The three texts of a numbering stand in a row, each as far behind the first as its ordinal tells. Assumes nothing.
-use Rattle.std.proofs.Common.{◌≡◌, ℕ, ◌+◌, ◌-◌, ◌<◌, List, [], Some, None, Option, sym, refl, ◌∙◌, subst, arith}
+use Rattle.std.proofs.Common.{◌≡◌, ℕ, ◌+◌, ◌-◌, List, [], Some, None, Option, sym, refl, ◌∙◌, subst, arith}
 use Rattle.std.specs.Option.{option_map}
-use Rattle.std.proofs.lemmas.List.Quantifiers.{position-Some}
 use Rattle.territory.specs.declared.numberings.Numbering.{Ghosts}
 use Rattle.territory.specs.declared.numberings.NumberingText.{NumberingText}
 use Rattle.territory.specs.declared.numberings.NumberingText.TheVariants.{First, Second, Third}
-use Rattle.text.specs.declared.nguid.Layer.TheVariants as layer
 use Rattle.delivery.specs.declared.kinds.Kind.{Kind}
 use Rattle.record.specs.Judging.{ordinal, side_reading}
-use Rattle.record.specs.Layouts.{field_count, layout}
+use Rattle.record.specs.Layouts.{layout}
 use Rattle.record.specs.Named.{index_in, text_given, StandsAt}
 use Rattle.record.specs.Names.{same_name}
 use Rattle.record.specs.Parts.{reading_from}
-use Rattle.record.specs.declared.field_names.FieldName.{FieldName}
-use Rattle.record.specs.declared.field_names.FieldName.TheVariants.{Identifier, Numbering}
+use Rattle.record.specs.declared.field_names.FieldName.TheVariants.{Numbering}
 use Rattle.record.specs.declared.field_names.Side.{Side}
-
-few_fields : (kind : Kind) → field_count kind < 25
-few_fields kind = grind arith
-
-pub stands_low : (kind : Kind) (name : FieldName) (index : ℕ) → StandsAt kind name index → index < 25
-unfolding index_in
-stands_low kind name index e =
-    let below = (position-Some (same_name name) (layout kind) index (Identifier layer.Road) e).0 in
-    omega (arith, few_fields kind)
 
 in_a_row : (kind : Kind) (side : Side) (which : NumberingText) → index_in (layout kind) (Numbering side which) ≡ option_map (λ first. first + ordinal which) (index_in (layout kind) (Numbering side First))
 unfolding index_in same_name

@@ -8,15 +8,13 @@ ghost use Rattle.record.specs.Forms.{RefusedByForm};
 ghost use Rattle.record.specs.Judging.{faulty};
 ghost use Rattle.record.specs.Laid.{Laid};
 ghost use Rattle.record.specs.Layouts.{field_count, layout};
-ghost use Rattle.record.specs.Named.{index_in};
 ghost use Rattle.record.specs.Rules.{RefusedRightly, fields_of};
-ghost use Rattle.record.specs.declared.field_names.FieldName.TheVariants.{Effective};
 ghost use Rattle.record.specs.declared.refusals.BodyRefusal.TheVariants.{Lifetime};
 
 use crate::described::Described;
 use crate::layouts::layout;
 use crate::walking::{check_whole, place_at};
-use crate::{BodyRefusal, FieldName};
+use crate::{BodyRefusal, FieldKey, FieldName};
 use delivery::{Body, Kind};
 use instant::Instant;
 use territory::Numbering;
@@ -65,11 +63,12 @@ impl Described<'_> {
             .position(|(index, name)| self.is_faulty::<N>(*name, index))
     }
 
-    #[tactic(auto, using(crate::proofs::Lifetimes::lifetime_told))]
+    // A kind that has an Effective has its Expire behind it.
+    #[tactic(auto, using(crate::proofs::Lifetimes::lifetime_told, crate::proofs::NamedTexts::stands_low))]
     fn check_lifetime(self) -> Result<(), BodyRefusal>
         ensures { result_err result ≡ cond (no_lifetime self.entry.kind self.entry.body.bytes.now) (Some Lifetime) None }
     {
-        let Some(index) = self.lifetime_field() else {
+        let Some(index) = FieldName::Effective.index(self.kind) else {
             return Ok(());
         };
         let effective = Instant::read_effective(self.text(index));
@@ -77,18 +76,6 @@ impl Described<'_> {
         match (effective, expire) {
             (Some(first), Some(end)) if first >= end => Err(BodyRefusal::Lifetime),
             _ => Ok(()),
-        }
-    }
-
-    // Where the Effective stands, which the Expire follows, if the kind has them: at the end of its layout.
-    #[tactic(auto, unfolding(crate::specs::Named::index_in, crate::specs::Names::same_name))]
-    fn lifetime_field(self) -> Option<usize>
-        ensures value { result ≡ index_in (layout self.entry.kind) Effective }
-        ensures low { IfSome result (λ index. index < field_count self.entry.kind) }
-    {
-        match layout(self.kind) {
-            [before @ .., FieldName::Effective, FieldName::Expire] => Some(before.len()),
-            _ => None,
         }
     }
 }

@@ -21,7 +21,7 @@ impl Described<'_> {
     }
 
     // What the numbering finds at fault.
-    #[tactic(auto, using(crate::proofs::NumberingTexts::side_read_from, crate::proofs::NumberingTexts::stands_low))]
+    #[tactic(auto, using(crate::proofs::NumberingTexts::side_read_from, crate::proofs::NamedTexts::stands_low))]
     fn is_misread<N: Numbering>(self, name: FieldName, index: usize) -> bool
         requires { StandsAt self.kind name index }
         ensures { result ≡ misread N.Numbering.own self.entry.kind self.entry.body.bytes.now name }
@@ -37,7 +37,7 @@ impl Described<'_> {
     }
 
     /// The numbering of a side, or the first of its texts at fault.
-    #[tactic(auto, using(crate::proofs::NumberingTexts::side_read, crate::proofs::NumberingTexts::side_unread, crate::proofs::NumberingTexts::stands_low))]
+    #[tactic(auto, using(crate::proofs::NumberingTexts::side_read, crate::proofs::NumberingTexts::side_unread, crate::proofs::NamedTexts::stands_low))]
     pub(crate) fn numbering<N: Numbering>(self, side: Side) -> Result<N, NumberingText>
         ensures { result ≡ side_reading N.Numbering.own self.entry.kind self.entry.body.bytes.now side }
     {
